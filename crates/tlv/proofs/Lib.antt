@@ -1,0 +1,5 @@
+pub mod Bytes
+pub mod Numbers
+pub mod Elements
+pub mod Cuts
+pub mod RoundTrip
