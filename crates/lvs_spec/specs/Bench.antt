@@ -1,0 +1,142 @@
+-- Document 01, "Bench models": the items marked P as one table of cases; and a second table, of cases that a wrong reading of 01 would fail.
+use Prim.Native.Nat.{ℕ}
+use mathlib.Core.Bool.{Bool}
+use mathlib.Core.List.{List, [], _∷_, _++_}
+use lib.ListN.{replicate}
+use Rattle.tlv.specs.Bytes.{sameBytes}
+use Rattle.lvs_spec.specs.Verdict.{Verdict, verdict}
+use Rattle.lvs_spec.specs.Answers.{MatchAnswer, SignAnswer, Outcome, matchOutcome, signAnswer}
+
+-- a call, and the numbers of its answer. The match call is lent 257 words, all 9
+pub data Case : Type 0 where
+  judging : (model answer : List ℕ) → Case
+  matching : (model name answer : List ℕ) → Case
+  signing : (model packet key answer : List ℕ) → Case
+
+-- answers as numbers: 0 and the values of "accepted", "match" and "allowed"; 100 for "no match" and "not allowed"; a refusal's number and node index
+unfoldable pub verdictNumbers : Verdict → List ℕ
+verdictNumbers (Verdict.accepted n) = 0 ∷ n ∷ []
+verdictNumbers (Verdict.refused r i) = r ∷ i ∷ []
+
+unfoldable pub matchNumbers : Outcome → List ℕ
+matchNumbers o =
+    elim (o .0) [
+      | MatchAnswer.refused r ↦ r .number ∷ r .node ∷ o .1
+      | MatchAnswer.noMatch ↦ 100 ∷ o .1
+      | MatchAnswer.matched v n ↦ 0 ∷ v ∷ n ∷ o .1
+    ]
+
+unfoldable pub signNumbers : SignAnswer → List ℕ
+signNumbers (SignAnswer.refused r) = r .number ∷ r .node ∷ []
+signNumbers SignAnswer.notAllowed = 100 ∷ []
+signNumbers (SignAnswer.allowed p k) = 0 ∷ p ∷ k ∷ []
+
+unfoldable pub passes : Case → Bool
+passes (judging m r) = sameBytes (verdictNumbers (verdict m)) r
+passes (matching m n r) = sameBytes (matchNumbers (matchOutcome m n (replicate 257 9))) r
+passes (signing m p k r) = sameBytes (signNumbers (signAnswer m p k)) r
+
+-- A
+abbrev pub modelA : List ℕ
+modelA = 0x61 ∷ 0x04 ∷ 0x00 ∷ 0x01 ∷ 0x10 ∷ 0x00 ∷ 0x25 ∷ 0x01 ∷ 0x00 ∷ 0x69 ∷ 0x01 ∷ 0x00 ∷ 0x63 ∷ 0x03 ∷ 0x25 ∷ 0x01 ∷ 0x00 ∷ []
+
+-- B
+abbrev pub modelB : List ℕ
+modelB = 0x61 ∷ 0x04 ∷ 0x00 ∷ 0x01 ∷ 0x10 ∷ 0x00 ∷ 0x25 ∷ 0x01 ∷ 0x00 ∷ 0x69 ∷ 0x01 ∷ 0x01 ∷ 0x63 ∷ 0x0B ∷ 0x25 ∷ 0x01 ∷ 0x00 ∷ 0x53 ∷ 0x06 ∷ 0x25 ∷ 0x01 ∷ 0x01 ∷ 0x23 ∷ 0x01 ∷ 0x01 ∷ 0x63 ∷ 0x09 ∷ 0x25 ∷ 0x01 ∷ 0x01 ∷ 0x57 ∷ 0x01 ∷ 0x00 ∷ 0x55 ∷ 0x01 ∷ 0x01 ∷ []
+
+-- B with 80 00 after its first NodeId
+abbrev pub modelBOptional : List ℕ
+modelBOptional = 0x61 ∷ 0x04 ∷ 0x00 ∷ 0x01 ∷ 0x10 ∷ 0x00 ∷ 0x25 ∷ 0x01 ∷ 0x00 ∷ 0x69 ∷ 0x01 ∷ 0x01 ∷ 0x63 ∷ 0x0D ∷ 0x25 ∷ 0x01 ∷ 0x00 ∷ 0x80 ∷ 0x00 ∷ 0x53 ∷ 0x06 ∷ 0x25 ∷ 0x01 ∷ 0x01 ∷ 0x23 ∷ 0x01 ∷ 0x01 ∷ 0x63 ∷ 0x09 ∷ 0x25 ∷ 0x01 ∷ 0x01 ∷ 0x57 ∷ 0x01 ∷ 0x00 ∷ 0x55 ∷ 0x01 ∷ 0x01 ∷ []
+
+-- B with 81 00 there
+abbrev pub modelBCritical : List ℕ
+modelBCritical = 0x61 ∷ 0x04 ∷ 0x00 ∷ 0x01 ∷ 0x10 ∷ 0x00 ∷ 0x25 ∷ 0x01 ∷ 0x00 ∷ 0x69 ∷ 0x01 ∷ 0x01 ∷ 0x63 ∷ 0x0D ∷ 0x25 ∷ 0x01 ∷ 0x00 ∷ 0x81 ∷ 0x00 ∷ 0x53 ∷ 0x06 ∷ 0x25 ∷ 0x01 ∷ 0x01 ∷ 0x23 ∷ 0x01 ∷ 0x01 ∷ 0x63 ∷ 0x09 ∷ 0x25 ∷ 0x01 ∷ 0x01 ∷ 0x57 ∷ 0x01 ∷ 0x00 ∷ 0x55 ∷ 0x01 ∷ 0x01 ∷ []
+
+-- A with last version byte 01 and its final byte cut
+abbrev pub modelAVersion : List ℕ
+modelAVersion = 0x61 ∷ 0x04 ∷ 0x00 ∷ 0x01 ∷ 0x10 ∷ 0x01 ∷ 0x25 ∷ 0x01 ∷ 0x00 ∷ 0x69 ∷ 0x01 ∷ 0x00 ∷ 0x63 ∷ 0x03 ∷ 0x25 ∷ 0x01 ∷ []
+
+-- A with its final byte cut
+abbrev pub modelACut : List ℕ
+modelACut = 0x61 ∷ 0x04 ∷ 0x00 ∷ 0x01 ∷ 0x10 ∷ 0x00 ∷ 0x25 ∷ 0x01 ∷ 0x00 ∷ 0x69 ∷ 0x01 ∷ 0x00 ∷ 0x63 ∷ 0x03 ∷ 0x25 ∷ 0x01 ∷ []
+
+-- A with StartId 1
+abbrev pub modelAStart : List ℕ
+modelAStart = 0x61 ∷ 0x04 ∷ 0x00 ∷ 0x01 ∷ 0x10 ∷ 0x00 ∷ 0x25 ∷ 0x01 ∷ 0x01 ∷ 0x69 ∷ 0x01 ∷ 0x00 ∷ 0x63 ∷ 0x03 ∷ 0x25 ∷ 0x01 ∷ 0x00 ∷ []
+
+-- A without its Node
+abbrev pub modelANoNode : List ℕ
+modelANoNode = 0x61 ∷ 0x04 ∷ 0x00 ∷ 0x01 ∷ 0x10 ∷ 0x00 ∷ 0x25 ∷ 0x01 ∷ 0x00 ∷ 0x69 ∷ 0x01 ∷ 0x00 ∷ []
+
+-- B with Parent 1 in its second Node
+abbrev pub modelBParent : List ℕ
+modelBParent = 0x61 ∷ 0x04 ∷ 0x00 ∷ 0x01 ∷ 0x10 ∷ 0x00 ∷ 0x25 ∷ 0x01 ∷ 0x00 ∷ 0x69 ∷ 0x01 ∷ 0x01 ∷ 0x63 ∷ 0x0B ∷ 0x25 ∷ 0x01 ∷ 0x00 ∷ 0x53 ∷ 0x06 ∷ 0x25 ∷ 0x01 ∷ 0x01 ∷ 0x23 ∷ 0x01 ∷ 0x01 ∷ 0x63 ∷ 0x09 ∷ 0x25 ∷ 0x01 ∷ 0x01 ∷ 0x57 ∷ 0x01 ∷ 0x01 ∷ 0x55 ∷ 0x01 ∷ 0x01 ∷ []
+
+-- /a
+abbrev pub nameA : List ℕ
+nameA = 0x07 ∷ 0x03 ∷ 0x08 ∷ 0x01 ∷ 0x61 ∷ []
+
+-- /b
+abbrev pub nameB : List ℕ
+nameB = 0x07 ∷ 0x03 ∷ 0x08 ∷ 0x01 ∷ 0x62 ∷ []
+
+-- the empty name
+abbrev pub nameEmpty : List ℕ
+nameEmpty = 0x07 ∷ 0x00 ∷ []
+
+-- the words of a match: these first, 0 up to the 256th, and the last as it was
+abbrev pub wordsOf : ℕ → List ℕ → List ℕ
+wordsOf zeros ws = ws ++ (replicate zeros 0 ++ (9 ∷ []))
+
+unfoldable pub published : List Case
+published =
+    judging modelA (0 ∷ 1 ∷ []) ∷
+    matching modelA nameEmpty (0 ∷ 0 ∷ 0 ∷ wordsOf 256 []) ∷
+    signing modelA nameEmpty nameEmpty (100 ∷ []) ∷
+    judging modelB (0 ∷ 2 ∷ []) ∷
+    matching modelB nameA (0 ∷ 1 ∷ 1 ∷ wordsOf 254 (2 ∷ 3 ∷ [])) ∷
+    signing modelB nameA nameA (0 ∷ 1 ∷ 1 ∷ []) ∷
+    signing modelB nameA nameB (100 ∷ []) ∷
+    signing modelB nameA nameEmpty (100 ∷ []) ∷
+    judging modelBOptional (0 ∷ 2 ∷ []) ∷
+    matching modelBOptional nameA (0 ∷ 1 ∷ 1 ∷ wordsOf 254 (2 ∷ 3 ∷ [])) ∷
+    signing modelBOptional nameA nameA (0 ∷ 1 ∷ 1 ∷ []) ∷
+    signing modelBOptional nameA nameB (100 ∷ []) ∷
+    signing modelBOptional nameA nameEmpty (100 ∷ []) ∷
+    judging modelBCritical (2 ∷ 0 ∷ []) ∷
+    matching modelBCritical nameA (2 ∷ 0 ∷ replicate 257 9) ∷
+    signing modelBCritical nameA nameA (2 ∷ 0 ∷ []) ∷
+    judging modelAVersion (3 ∷ 0 ∷ []) ∷
+    judging modelACut (2 ∷ 0 ∷ []) ∷
+    judging modelAStart (7 ∷ 0 ∷ []) ∷
+    judging modelANoNode (7 ∷ 0 ∷ []) ∷
+    judging modelBParent (11 ∷ 0 ∷ []) ∷
+    []
+
+-- ---- cases of our own
+
+-- two edges that each match /a; only the Node of the second lists a signer
+abbrev pub modelLater : List ℕ
+modelLater = 0x61 ∷ 0x04 ∷ 0x00 ∷ 0x01 ∷ 0x10 ∷ 0x00 ∷ 0x25 ∷ 0x01 ∷ 0x00 ∷ 0x69 ∷ 0x01 ∷ 0x00 ∷ 0x63 ∷ 0x13 ∷ 0x25 ∷ 0x01 ∷ 0x00 ∷ 0x53 ∷ 0x06 ∷ 0x25 ∷ 0x01 ∷ 0x01 ∷ 0x23 ∷ 0x01 ∷ 0x01 ∷ 0x53 ∷ 0x06 ∷ 0x25 ∷ 0x01 ∷ 0x02 ∷ 0x23 ∷ 0x01 ∷ 0x02 ∷ 0x63 ∷ 0x06 ∷ 0x25 ∷ 0x01 ∷ 0x01 ∷ 0x57 ∷ 0x01 ∷ 0x00 ∷ 0x63 ∷ 0x09 ∷ 0x25 ∷ 0x01 ∷ 0x02 ∷ 0x57 ∷ 0x01 ∷ 0x00 ∷ 0x55 ∷ 0x01 ∷ 0x02 ∷ []
+
+-- an option that names its own edge's Tag
+abbrev pub modelOwnTag : List ℕ
+modelOwnTag = 0x61 ∷ 0x04 ∷ 0x00 ∷ 0x01 ∷ 0x10 ∷ 0x00 ∷ 0x25 ∷ 0x01 ∷ 0x00 ∷ 0x69 ∷ 0x01 ∷ 0x00 ∷ 0x63 ∷ 0x12 ∷ 0x25 ∷ 0x01 ∷ 0x00 ∷ 0x53 ∷ 0x0D ∷ 0x25 ∷ 0x01 ∷ 0x01 ∷ 0x23 ∷ 0x01 ∷ 0x01 ∷ 0x43 ∷ 0x05 ∷ 0x41 ∷ 0x03 ∷ 0x23 ∷ 0x01 ∷ 0x01 ∷ 0x63 ∷ 0x06 ∷ 0x25 ∷ 0x01 ∷ 0x01 ∷ 0x57 ∷ 0x01 ∷ 0x00 ∷ []
+
+-- an option without a term, and a destination whose Parent is another: rules 10 and 11
+abbrev pub modelTwoFaults : List ℕ
+modelTwoFaults = 0x61 ∷ 0x04 ∷ 0x00 ∷ 0x01 ∷ 0x10 ∷ 0x00 ∷ 0x25 ∷ 0x01 ∷ 0x00 ∷ 0x69 ∷ 0x01 ∷ 0x00 ∷ 0x63 ∷ 0x0F ∷ 0x25 ∷ 0x01 ∷ 0x00 ∷ 0x53 ∷ 0x0A ∷ 0x25 ∷ 0x01 ∷ 0x01 ∷ 0x23 ∷ 0x01 ∷ 0x01 ∷ 0x43 ∷ 0x02 ∷ 0x41 ∷ 0x00 ∷ 0x63 ∷ 0x06 ∷ 0x25 ∷ 0x01 ∷ 0x01 ∷ 0x57 ∷ 0x01 ∷ 0x01 ∷ []
+
+-- a critical element, and then another version
+abbrev pub modelCriticalFirst : List ℕ
+modelCriticalFirst = 0x01 ∷ 0x00 ∷ 0x61 ∷ 0x04 ∷ 0x00 ∷ 0x01 ∷ 0x10 ∷ 0x01 ∷ []
+
+-- the key is searched from every packet match; a Tag is bound after its own Constraints are tried; the lower rule is tested first; rule 3
+-- does not look behind a critical element
+unfoldable pub ours : List Case
+ours =
+    signing modelLater nameA nameA (0 ∷ 2 ∷ 2 ∷ []) ∷
+    matching modelOwnTag nameA (100 ∷ replicate 257 9) ∷
+    judging modelTwoFaults (10 ∷ 0 ∷ []) ∷
+    judging modelCriticalFirst (2 ∷ 0 ∷ []) ∷
+    []
