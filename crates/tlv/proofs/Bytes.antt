@@ -10,7 +10,7 @@ use borrow.Author.Tests.{eqb-true, eq-eqb, ne-eqb}
 use lib.Arith.{digits-lt, digits-div, digits-mod}
 use lib.Dec.{eqb, lit<}
 use lib.ListN.{length, take, drop, getD, length-append, length-drop, drop-of-length-le}
-use lib.Seq.{getD-drop, length-take-le, take-add, drop-drop, drop-cons}
+use lib.Seq.{getD-drop, length-take-le, take-add, drop-drop, drop-cons, take-append-seam, drop-append-seam}
 use lib.Pow.{pow-add}
 use Rattle.tlv.specs.Bytes.{Bytes, sameBytes, bigEndian, bigEndianBytes}
 use Rattle.tlv.specs.Spelled.{Spelled}
@@ -34,6 +34,12 @@ pub bytes-append : (s t : List ℕ) → Bytes s → Bytes t → Bytes (s ++ t)
 bytes-append [] t h g i = g i
 bytes-append (x ∷ s) t h g zero = h 0
 bytes-append (x ∷ s) t h g (suc i) = bytes-append s t (λ j. h (suc j)) g i
+
+pub bytes-left : (s t : List ℕ) → Bytes (s ++ t) → Bytes s
+bytes-left s t h = rw (take-append-seam s t) at (bytes-take (length s) (s ++ t) h)
+
+pub bytes-right : (s t : List ℕ) → Bytes (s ++ t) → Bytes t
+bytes-right s t h = rw (drop-append-seam s t) at (bytes-drop (length s) (s ++ t) h)
 
 pub bytes-spelled : (w n : ℕ) → n < 256 ^ w → Bytes (bigEndianBytes w n)
 unfolding bigEndianBytes

@@ -217,9 +217,9 @@ pub split-end : (b : List ℕ) → cuts b ≡ done → split b ≡ some []
 unfolding split
 split-end b p = rw p
 
-pub split-malformed : (b : List ℕ) → cuts b ≡ broken → split b ≡ none
+pub split-broken : (b : List ℕ) → cuts b ≡ broken → split b ≡ none
 unfolding split
-split-malformed b p = rw p
+split-broken b p = rw p
 
 pub split-next : (b r : List ℕ) (e : Element) → cuts b ≡ next e (cuts r) → split b ≡ also e (split r)
 unfolding split

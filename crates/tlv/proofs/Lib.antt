@@ -3,3 +3,4 @@ pub mod Numbers
 pub mod Elements
 pub mod Cuts
 pub mod RoundTrip
+pub mod Sizes

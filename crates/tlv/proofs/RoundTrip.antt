@@ -13,7 +13,7 @@ use lib.Seq.{take-at, drop-append-seam, drop-append-add, take-append-seam, drop-
 use Rattle.tlv.specs.Bytes.{Bytes, bigEndian, bigEndianBytes}
 use Rattle.tlv.specs.Number.{Num, unreadable, num, width, least, mark, wide, number, numberBytes, integerSize, integer}
 use Rattle.tlv.specs.Element.{Element, First, first, end, malformed, element, typed, sized, typeInRange, Cuts, done, broken, next, after, cutsBy, cuts, also, whole, split, elementBytes, encode, InRange, Each, nexts}
-use Rattle.tlv.proofs.Bytes.{bytes-append, bytes-spelled, bytes-drop, bytes-take, big-lt, length-spelled, big-spelled, spelled-big}
+use Rattle.tlv.proofs.Bytes.{bytes-left, bytes-right, bytes-append, bytes-spelled, bytes-drop, bytes-take, big-lt, length-spelled, big-spelled, spelled-big}
 use Rattle.tlv.proofs.Numbers.{Shape, one, many, shape, unreadable-num}
 use Rattle.tlv.proofs.Cuts.{Whole, element-whole, cuts-next, cuts-end, cuts-malformed, none-some, also-some, element-nil, done-nil}
 
@@ -221,6 +221,17 @@ encode-bytes (e ∷ es) h g =
     (bytes-append T (L ++ e .inside) (numberBytes-bytes (e .type) (type-fits (e .type) (h .0 .type-ok)))
     (bytes-append L (e .inside) (numberBytes-bytes (length (e .inside)) (h .0 .length-ok)) (g .0)))
     (encode-bytes es (h .1) (g .1))
+
+-- and so are their insides
+pub insides-bytes : (es : List Element) → Bytes (encode es) → Each (λ e. Bytes (e .inside)) es
+unfolding encode elementBytes
+insides-bytes [] h = tt
+insides-bytes (e ∷ es) h =
+    let T = numberBytes (e .type) in
+    let L = numberBytes (length (e .inside)) in (
+      bytes-right L (e .inside) (bytes-right T (L ++ e .inside) (bytes-left (T ++ (L ++ e .inside)) (encode es) h)),
+      insides-bytes es (bytes-right (T ++ (L ++ e .inside)) (encode es) h),
+    )
 
 -- ---- integers
 
