@@ -163,11 +163,26 @@ whole-nexts : (es : List Element) → whole (nexts es done) ≡ some es
 whole-nexts [] = refl
 whole-nexts (e ∷ es) = rw (whole-nexts es)
 
-pub split-encode : (es : List Element) → Each InRange es → split (encode es) ≡ some es
+whole-some : (c : Cuts) (es : List Element) → whole c ≡ some es → c ≡ nexts es done
+whole-some done es p = let e : es ≡ [] = cc in rw e
+whole-some broken es p = absurd (none-some p)
+whole-some (next e c) es p =
+    let t = also-some e (whole c) es p in
+    rw (t .2) (ap (λ (x : Cuts). next e x) (whole-some c (t .0) (t .1)))
+
+pub split-nexts : (b : List ℕ) (es : List Element) → cuts b ≡ nexts es done → split b ≡ some es
 unfolding split
-split-encode es h =
-    let p : cuts (encode es) ≡ nexts es done = rw append-nil at (rw cuts-nil at (cuts-encode es [] h)) in
-    rw p (whole-nexts es)
+split-nexts b es p = rw p (whole-nexts es)
+
+pub cuts-encoded : (es : List Element) → Each InRange es → cuts (encode es) ≡ nexts es done
+cuts-encoded es h = rw append-nil at (rw cuts-nil at (cuts-encode es [] h))
+
+pub split-encode : (es : List Element) → Each InRange es → split (encode es) ≡ some es
+split-encode es h = split-nexts (encode es) es (cuts-encoded es h)
+
+pub nexts-split : (b : List ℕ) (es : List Element) → split b ≡ some es → cuts b ≡ nexts es done
+unfolding split
+nexts-split b es p = whole-some (cuts b) es p
 
 -- what was cut off the front, and the bytes behind it, from which the rest was cut
 pub record CutOff (b : List ℕ) (es : List Element) (c : Cuts) : Type 0 where
@@ -196,18 +211,10 @@ encode-cuts (e ∷ es) c b by p = go (element b) refl (encode-cuts es c)
           rest-is = o .rest-is;
         }
 
-whole-some : (c : Cuts) (es : List Element) → whole c ≡ some es → c ≡ nexts es done
-whole-some done es p = let e : es ≡ [] = cc in rw e
-whole-some broken es p = absurd (none-some p)
-whole-some (next e c) es p =
-    let t = also-some e (whole c) es p in
-    rw (t .2) (ap (λ (x : Cuts). next e x) (whole-some c (t .0) (t .1)))
-
 -- bytes that can be cut whole are the encoding of what was cut
 pub encode-split : (b : List ℕ) → Bytes b → (es : List Element) → split b ≡ some es → encode es ≡ b
-unfolding split
 encode-split b by es p =
-    let o = encode-cuts es done b by (whole-some (cuts b) es p) in
+    let o = encode-cuts es done b by (nexts-split b es p) in
     let nothing : o .behind ≡ [] = done-nil (o .behind) (o .rest-is) in
     sym (o .front-is ∙ rw (nothing, append-nil))
 
