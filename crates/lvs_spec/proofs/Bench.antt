@@ -1,13 +1,13 @@
 -- Document 01's P table holds, and so does the second table: both by computation.
 use lib.Dec.{T}
 use Rattle.tlv.specs.Bytes.{sameBytes, bigEndian, bigEndianBytes}
-use Rattle.tlv.specs.Number.{width, least, wide, number, mark, numberBytes}
+use Rattle.tlv.specs.Number.{integer, width, least, wide, number, mark, numberBytes}
 use Rattle.tlv.specs.Element.{typeInRange, sized, typed, element, cutsBy, cuts, elementBytes}
 use Rattle.lvs_spec.specs.Lists.{all}
 use Rattle.lvs_spec.specs.Grammar.{knownTypes, unknown, lookup, meaning, order, step, final}
 use Rattle.lvs_spec.specs.Leaves.{isComponent, oneComponent, letter, letterOrDigit, identifier, marked, textIn, leafIn}
 use Rattle.lvs_spec.specs.WellFormed.{insideOk, inOrder, wellFormedBy, wellFormed, firstKnown, isOtherVersion, otherVersion, tooLong}
-use Rattle.lvs_spec.specs.Model.{eachCut, insideOf, insides, integers, theInside, theInteger, componentFrom, componentOf, argumentFrom, argumentOf, callOf, termFrom, optionOf, constraintOf, valueEdgeOf, patternEdgeOf, nodeOf, symbolOf, modelOf}
+use Rattle.lvs_spec.specs.Model.{eachCut, insideOf, insides, numberOf, integers, theInside, theInteger, componentFrom, componentOf, argumentFrom, argumentOf, callOf, termFrom, optionOf, constraintOf, valueEdgeOf, patternEdgeOf, nodeOf, symbolOf, modelOf}
 use Rattle.lvs_spec.specs.Verdict.{functionNames, functionIn, functionOf, arity, destinations, options, terms, callsIn, calls, argumentTags, termTags, nodeTags, tags, namesNone, badTag, notParent, badCall, firstFault, rules, decide, judge, reading, verdict}
 use Rattle.lvs_spec.specs.Names.{same, componentsAt, nameFrom, nameOf, nameReading, packetName, keyName}
 use Rattle.lvs_spec.specs.Walk.{noBindings, bound, bindTag, boundTo, argumentIn, holds, callHolds, termHolds, optionHolds, constraintHolds, crossValue, crossPattern, noNode, nodeAt, crossings, matches, matchesFrom, packetMatches, lists, signers, pairs}
@@ -16,10 +16,10 @@ use Rattle.lvs_spec.specs.Bench.{verdictNumbers, matchNumbers, signNumbe
 
 -- to unfold this is to unfold every definition that an answer is computed by
 unfoldable pub computing : Unit {0}
-unfolding sameBytes bigEndian bigEndianBytes width least wide number mark numberBytes typeInRange sized typed element cutsBy cuts elementBytes
+unfolding integer sameBytes bigEndian bigEndianBytes width least wide number mark numberBytes typeInRange sized typed element cutsBy cuts elementBytes
     knownTypes unknown lookup meaning order step final isComponent oneComponent letter letterOrDigit identifier marked textIn leafIn
     insideOk inOrder wellFormedBy wellFormed firstKnown isOtherVersion otherVersion tooLong
-    eachCut insideOf insides integers theInside theInteger componentFrom componentOf argumentFrom argumentOf callOf termFrom optionOf constraintOf valueEdgeOf patternEdgeOf nodeOf symbolOf modelOf
+    eachCut insideOf insides numberOf integers theInside theInteger componentFrom componentOf argumentFrom argumentOf callOf termFrom optionOf constraintOf valueEdgeOf patternEdgeOf nodeOf symbolOf modelOf
     functionNames functionIn functionOf arity destinations options terms callsIn calls argumentTags termTags nodeTags tags namesNone badTag notParent badCall firstFault rules decide judge reading verdict
     same componentsAt nameFrom nameOf nameReading packetName keyName
     noBindings bound bindTag boundTo argumentIn holds callHolds termHolds optionHolds constraintHolds crossValue crossPattern noNode nodeAt crossings matches matchesFrom packetMatches lists signers pairs

@@ -6,14 +6,13 @@ use Prim.Native.Nat.{ℕ, zero, suc}
 use native.Mathlib.Omega.{arith}
 use borrow.Author.Tests.{eqb-true}
 use lib.Dec.{eqb}
-use Rattle.tlv.specs.Bytes.{bigEndian}
 use Rattle.tlv.specs.Element.{Element, Cuts, done, broken, next, cuts}
 use Rattle.lvs_spec.specs.Lists.{when, firstOr, first}
 use Rattle.lvs_spec.specs.Types as type
 use Rattle.lvs_spec.specs.Grammar.{Kind, Leaf, Known, Meaning, meaning, lookup, knownTypes, leaf, container, optional, known}
 use Rattle.lvs_spec.specs.Grammar.{model, node, valueEdge, patternEdge, constraint, constraintOption, userFnCall, userFnArg, tagSymbol}
 use Rattle.lvs_spec.specs.Grammar.{version, integer, value, text, functionId}
-use Rattle.lvs_spec.specs.Model.{Argument, Term, eachCut, insideOf, insides, integers, theInside, theInteger, componentOf, argumentFrom, argumentOf, callOf, termFrom, optionOf, constraintOf, valueEdgeOf, patternEdgeOf, nodeOf, symbolOf, modelOf}
+use Rattle.lvs_spec.specs.Model.{Argument, Term, eachCut, insideOf, insides, numberOf, integers, theInside, theInteger, componentOf, argumentFrom, argumentOf, callOf, termFrom, optionOf, constraintOf, valueEdgeOf, patternEdgeOf, nodeOf, symbolOf, modelOf}
 use Rattle.lvs_spec.specs.Gaps.{holding, bareBy}
 use Rattle.lvs_spec.proofs.Grammar.{types-differ}
 use Rattle.lvs_spec.proofs.Bare.{Good, Respects, read-bare}
@@ -89,7 +88,7 @@ argument-same zero b g = refl
 argument-same (suc n) b g =
     ap (firstOr (Argument.tag 0))
     (read-bare
-    (append-respects (leaf-respects type.Value value refl (λ x. Argument.value (componentOf x))) (leaf-respects type.Tag integer refl (λ x. Argument.tag (bigEndian x))))
+    (append-respects (leaf-respects type.Value value refl (λ x. Argument.value (componentOf x))) (leaf-respects type.Tag integer refl (λ x. Argument.tag (numberOf x))))
     g)
 
 call-same : Same callOf userFnCall
@@ -103,7 +102,7 @@ option-same zero b g = refl
 option-same (suc n) b g =
     read-bare
     (append-respects
-    (append-respects (leaf-respects type.Value value refl (λ x. Term.value (componentOf x))) (leaf-respects type.Tag integer refl (λ x. Term.tag (bigEndian x))))
+    (append-respects (leaf-respects type.Value value refl (λ x. Term.value (componentOf x))) (leaf-respects type.Tag integer refl (λ x. Term.tag (numberOf x))))
     (container-respects type.UserFnCall userFnCall refl (λ x. Term.call (callOf x)) (λ x h. ap Term.call (call-same n x h))))
     g
 

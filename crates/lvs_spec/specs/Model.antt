@@ -5,7 +5,7 @@ use mathlib.Core.Bool.{Bool, true, false}
 use mathlib.Core.List.{List, [], _∷_, _++_, map}
 use mathlib.Core.Option.{Option, none, some}
 use lib.Dec.{eqb}
-use Rattle.tlv.specs.Bytes.{bigEndian}
+use Rattle.tlv.specs.Number.{integer}
 use Rattle.tlv.specs.Element.{Element, First, end, malformed, first, element, Cuts, done, broken, next, cuts}
 use Rattle.lvs_spec.specs.Lists.{when, firstOr, first as firstOf}
 use Rattle.lvs_spec.specs.Types as type
@@ -77,15 +77,19 @@ insideOf t e = when (eqb t (e .type)) (e .inside)
 unfoldable pub insides : ℕ → List ℕ → List (List ℕ)
 insides t b = eachCut (insideOf t) (cuts b)
 
+-- an integer's value; 0 where it has another size, which is malformed
+unfoldable pub numberOf : List ℕ → ℕ
+numberOf b = elim (integer b) [ none ↦ 0 | some n ↦ n ]
+
 unfoldable pub integers : ℕ → List ℕ → List ℕ
-integers t b = map bigEndian (insides t b)
+integers t b = map numberOf (insides t b)
 
 -- those of the only one
 unfoldable pub theInside : ℕ → List ℕ → List ℕ
 theInside t b = firstOr [] (insides t b)
 
 unfoldable pub theInteger : ℕ → List ℕ → ℕ
-theInteger t b = bigEndian (theInside t b)
+theInteger t b = numberOf (theInside t b)
 
 -- the component that a Value holds
 unfoldable pub componentFrom : First → Element
@@ -97,7 +101,7 @@ unfoldable pub componentOf : List ℕ → Element
 componentOf b = componentFrom (element b)
 
 unfoldable pub argumentFrom : Element → List Argument
-argumentFrom e = when (eqb type.Value (e .type)) (value (componentOf (e .inside))) ++ when (eqb type.Tag (e .type)) (tag (bigEndian (e .inside)))
+argumentFrom e = when (eqb type.Value (e .type)) (value (componentOf (e .inside))) ++ when (eqb type.Tag (e .type)) (tag (numberOf (e .inside)))
 
 -- a UserFnArg holds one Value or one Tag
 unfoldable pub argumentOf : List ℕ → Argument
@@ -109,7 +113,7 @@ callOf b = record { function = theInside type.FnId b; arguments = map argumentOf
 unfoldable pub termFrom : Element → List Term
 termFrom e =
     when (eqb type.Value (e .type)) (value (componentOf (e .inside))) ++
-    when (eqb type.Tag (e .type)) (tag (bigEndian (e .inside))) ++
+    when (eqb type.Tag (e .type)) (tag (numberOf (e .inside))) ++
     when (eqb type.UserFnCall (e .type)) (call (callOf (e .inside)))
 
 unfoldable pub optionOf : List ℕ → ConstraintOption
