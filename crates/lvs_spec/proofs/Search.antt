@@ -112,6 +112,11 @@ module _ {A : Type 0} where
   in-first (List·Memᴰ·head {x = y} e) = (y, refl)
   in-first (List·Memᴰ·tail {x = y} i) = (y, refl)
 
+  -- where nothing is, there is none
+  pub none-first : (xs : List A) → ¬ ((x : A) × List·Memᴰ x xs) → first xs ≡ none
+  none-first [] h = refl
+  none-first (x ∷ xs) h = absurd (h (x, List·Memᴰ·head refl))
+
   pub when-from : (t : Bool) {a x : A} → List·Memᴰ x (when t a) → (t ≡ true) × (x ≡ a)
   when-from true i = (refl, List·Memᴰ·eq-of-singleton i)
   when-from false i = absurd (List·Memᴰ·not-nil i)
