@@ -1,3 +1,4 @@
 pub mod Bench
 pub mod Search
 pub mod Signing
+pub mod Unnamed
