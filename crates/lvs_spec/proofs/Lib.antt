@@ -2,3 +2,4 @@ pub mod Bench
 pub mod Search
 pub mod Signing
 pub mod Unnamed
+pub mod Buffer

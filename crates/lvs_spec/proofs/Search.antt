@@ -8,7 +8,7 @@ use mathlib.Core.Option.{Option, none, some, Option·none-ne-some, Option·some-
 use Rattle.lvs_spec.specs.Lists.{each, when, first}
 use Rattle.lvs_spec.specs.Model.{Model}
 use Rattle.lvs_spec.specs.Names.{Component}
-use Rattle.lvs_spec.specs.Walk.{Bindings, Match, noBindings, crossings, matches, matchesFrom, packetMatches, lists, signers, pairs}
+use Rattle.lvs_spec.specs.Walk.{Bindings, Match, noBindings, crossValue, crossPattern, nodeAt, crossings, matches, matchesFrom, packetMatches, lists, signers, pairs}
 
 -- ---- the first of a list
 
@@ -17,6 +17,10 @@ module _ {A : Type 0} where
   abbrev pub orElse : Option A → Option A → Option A
   orElse none o = o
   orElse (some a) o = some a
+
+  pub orElse-assoc : (o p q : Option A) → orElse o (orElse p q) ≡ orElse (orElse o p) q
+  orElse-assoc none p q = refl
+  orElse-assoc (some a) p q = refl
 
   pub first-append : (xs ys : List A) → first (xs ++ ys) ≡ orElse (first xs) (first ys)
   first-append [] ys = refl
@@ -34,12 +38,7 @@ module _ {A B : Type 0} where
 
   pub firstOn-append : (g : A → Option B) (xs ys : List A) → firstOn g (xs ++ ys) ≡ orElse (firstOn g xs) (firstOn g ys)
   firstOn-append g [] ys = refl
-  firstOn-append g (x ∷ xs) ys = go (g x) (firstOn-append g xs ys)
-    where
-      go : (o : Option B) → firstOn g (xs ++ ys) ≡ orElse (firstOn g xs) (firstOn g ys)
-          → orElse o (firstOn g (xs ++ ys)) ≡ orElse (orElse o (firstOn g xs)) (firstOn g ys)
-      go none rec = rec
-      go (some b) rec = refl
+  firstOn-append g (x ∷ xs) ys = ap (orElse (g x)) (firstOn-append g xs ys) ∙ orElse-assoc (g x) (firstOn g xs) (firstOn g ys)
 
   pub each-append : (g : A → List B) (xs ys : List A) → each g (xs ++ ys) ≡ each g xs ++ each g ys
   each-append g [] ys = refl
@@ -49,6 +48,10 @@ module _ {A B C : Type 0} where
   pub each-each : (h : B → List C) (g : A → List B) (xs : List A) → each h (each g xs) ≡ each (λ x. each h (g x)) xs
   each-each h g [] = refl
   each-each h g (x ∷ xs) = each-append h (g x) (each g xs) ∙ ap (λ (l : List C). each h (g x) ++ l) (each-each h g xs)
+
+  pub firstOn-each : (h : B → Option C) (g : A → List B) (xs : List A) → firstOn h (each g xs) ≡ firstOn (λ x. firstOn h (g x)) xs
+  firstOn-each h g [] = refl
+  firstOn-each h g (x ∷ xs) = firstOn-append h (g x) (each g xs) ∙ ap (orElse (firstOn h (g x))) (firstOn-each h g xs)
 
 pub each-alone : {A : Type 0} (xs : List A) → each (λ x. x ∷ []) xs ≡ xs
 each-alone [] = refl
@@ -71,6 +74,15 @@ module _ {B : Type 0} (h : Match → List B) (m : Model) where
       → searchFrom (c ∷ cs) v s ≡ firstOn (λ x. searchFrom cs (x .0) (x .1)) (crossings m v s c)
   unfolding searchFrom matches
   search-step c cs v s = ap first (each-each h (λ x. matches m cs (x .0) (x .1)) (crossings m v s c)) ∙ first-each _ (crossings m v s c)
+
+-- over a Node's edges: all ValueEdges in file order, then all PatternEdges in file order
+pub search-edges : {B : Type 0} (g : Match → Option B) (m : Model) (v : ℕ) (s : Bindings) (c : Component)
+    → firstOn g (crossings m v s c)
+    ≡ orElse (firstOn (λ e. firstOn g (crossValue s c e)) (nodeAt m v .valueEdges)) (firstOn (λ e. firstOn g (crossPattern s c e)) (nodeAt m v .patternEdges))
+unfolding crossings
+search-edges g m v s c =
+    firstOn-append g (each (crossValue s c) (nodeAt m v .valueEdges)) (each (crossPattern s c) (nodeAt m v .patternEdges)) ∙
+    rw (firstOn-each g (crossValue s c) (nodeAt m v .valueEdges), firstOn-each g (crossPattern s c) (nodeAt m v .patternEdges))
 
 -- the three searches of the calls: for a match, for a pair, and for the key of a packet match
 pub match-search : (m : Model) (cs : List Component) → first (packetMatches m cs) ≡ searchFrom (λ x. x ∷ []) m cs (m .start) noBindings

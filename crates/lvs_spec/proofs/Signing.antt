@@ -18,6 +18,10 @@ use Rattle.lvs_spec.specs.Answers.{Usable, unusable, usable, usableModel
 use Rattle.lvs_spec.specs.Demands.{Allowed}
 use Rattle.lvs_spec.proofs.Search.{each-in, each-from, first-in, in-first, none-first, when-in, when-from}
 
+-- where two different constructors are equal `cc` proves 0 ≡ 1, and there is nothing to show
+pub clash : {A : Type 0} → _≡_ {A = ℕ} 0 1 → A
+clash z = absurd (omega arith)
+
 -- ---- the pairs of the definition are those that demand 2 allows
 
 pub pair-allowed : (m : Model) (ps ks : List Component) {p k : ℕ} → List·Memᴰ (p, k) (pairs m ps ks) → Allowed m ps ks p k
@@ -43,7 +47,7 @@ pub record SignInputs (b packet key : List ℕ) (m : Model) (ps ks : List Compon
 
 pair-found : (o : Option (ℕ × ℕ)) {p k : ℕ} → pairFound o ≡ SignAnswer.allowed p k → o ≡ some (p, k)
 unfolding pairFound
-pair-found none h = let z : _≡_ {A = ℕ} 0 1 = cc in absurd (omega arith)
+pair-found none h = clash (cc)
 pair-found (some x) {p} {k} h =
     let ep : x .0 ≡ p = cc in
     let ek : x .1 ≡ k = cc in
@@ -70,7 +74,7 @@ module _ {b packet key : List ℕ} {m : Model} {ps ks : List Component} (inputs 
   pub not-allowed-exactly : (signAnswer b packet key ≡ SignAnswer.notAllowed) ↔ (¬ ((p k : ℕ) × Allowed m ps ks p k))
   unfolding pairFound
   not-allowed-exactly = (
-    λ h (p, k, a). let (p′, k′, h′) = allowed-sign a in let z : _≡_ {A = ℕ} 0 1 = cc in omega arith,
+    λ h (p, k, a). let (p′, k′, h′) = allowed-sign a in clash (cc),
     λ h. sign-is ∙ ap pairFound (none-first (pairs m ps ks) λ (x, i). h (x .0, x .1, pair-allowed m ps ks i)),
   )
 
@@ -90,9 +94,9 @@ unfolding signAnswer signIn signNames
 sign-allowed b packet key p k h = go (usableModel b) (packetName packet) (keyName key) refl refl refl
   where
     go : (u : Usable) (r s : NameReading) → usableModel b ≡ u → packetName packet ≡ r → keyName key ≡ s → SignedBy b packet key p k
-    go (unusable x) r s eu er es = let z : _≡_ {A = ℕ} 0 1 = cc in absurd (omega arith)
-    go (usable m) (badName x) s eu er es = let z : _≡_ {A = ℕ} 0 1 = cc in absurd (omega arith)
-    go (usable m) (goodName ps) (badName x) eu er es = let z : _≡_ {A = ℕ} 0 1 = cc in absurd (omega arith)
+    go (unusable x) r s eu er es = clash (cc)
+    go (usable m) (badName x) s eu er es = clash (cc)
+    go (usable m) (goodName ps) (badName x) eu er es = clash (cc)
     go (usable m) (goodName ps) (goodName ks) eu er es =
         let g : SignInputs b packet key m ps ks = record { usable-is = eu; packet-good = er; key-good = es } in
         let found = sign-pair g h in
@@ -123,7 +127,7 @@ pub data Ended (b name buffer : List ℕ) : Outcome → Type 0 where
 
 match-found : (o : Option Match) (buffer : List ℕ) {v n : ℕ} → matchFound o buffer .0 ≡ MatchAnswer.matched v n → (x : Match) × (o ≡ some x)
 unfolding matchFound
-match-found none buffer h = let z : _≡_ {A = ℕ} 0 1 = cc in absurd (omega arith)
+match-found none buffer h = clash (cc)
 match-found (some x) buffer h = (x, refl)
 
 module _ {b name buffer : List ℕ} {m : Model} {cs : List Component} (inputs : MatchInputs b name buffer m cs) where
@@ -151,7 +155,7 @@ module _ {b name buffer : List ℕ} {m : Model} {cs : List Component} (inputs : 
   pub no-match-exactly : (matchOutcome b name buffer .0 ≡ MatchAnswer.noMatch) ↔ (¬ ((x : Match) × List·Memᴰ x (packetMatches m cs)))
   unfolding matchFound
   no-match-exactly = (
-    λ h x. let (v, n, h′) = match-exactly .1 x in let z : _≡_ {A = ℕ} 0 1 = cc in omega arith,
+    λ h x. let (v, n, h′) = match-exactly .1 x in clash (cc),
     λ h. answer-is ∙ ap (λ o. matchFound o buffer .0) (none-first (packetMatches m cs) h),
   )
 
@@ -184,8 +188,8 @@ pub match-matched : (b name buffer : List ℕ) (v n : ℕ) → matchOutcome b na
 match-matched b name buffer v n h = go (match-ended b name buffer) h
   where
     go : {o : Outcome} → Ended b name buffer o → o .0 ≡ MatchAnswer.matched v n → MatchedBy b name buffer v n (o .1)
-    go (refusing r) h = let z : _≡_ {A = ℕ} 0 1 = cc in absurd (omega arith)
-    go (without g e) h = let z : _≡_ {A = ℕ} 0 1 = cc in absurd (omega arith)
+    go (refusing r) h = clash (cc)
+    go (without g e) h = clash (cc)
     go (finding {m = m} {cs = cs} {v = w} {s = s} g e) h =
         let ev : w ≡ v = cc in
         record { model = m; components = cs; inputs = g; bindings = s; first-match = e ∙ ap (λ x. some (x, s)) ev; count = cc; words-are = refl }

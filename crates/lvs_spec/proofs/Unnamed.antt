@@ -7,7 +7,7 @@ use lib.Dec.{ltb}
 use lib.ListN.{length, List·getD-map}
 use Rattle.lvs_spec.specs.Lists.{each}
 use Rattle.lvs_spec.specs.Limits.{bindingWords}
-use Rattle.lvs_spec.specs.Model.{Model, Node}
+use Rattle.lvs_spec.specs.Model.{Model}
 use Rattle.lvs_spec.specs.Names.{Component, NameReading, badName, goodName, packetName, keyName}
 use Rattle.lvs_spec.specs.Walk.{Bindings, Match, noBindings, noNode, nodeAt, crossings, matches, matchesFrom, packetMatches, lists, signers, pairs}
 use Rattle.lvs_spec.specs.Answers.{usable, usableModel, matchName, matchIn, matchOutcome, signNames, signIn, signAnswer}
