@@ -47,7 +47,7 @@ crossing-length m v s c i =
     (λ i. let (e, _, j) = each-from (crossPattern s c) (nodeAt m v .patternEdges) i in pattern-length s c e j)
     (List·Memᴰ·append-cases (each (crossValue s c) (nodeAt m v .valueEdges)) i)
 
--- every match binds as many Tags as there were
+-- a match's bindings are as many as those that it started from
 pub match-length : (m : Model) (cs : List Component) (v : ℕ) (s : Bindings) {x : Match} → List·Memᴰ x (matches m cs v s) → length (x .1) ≡ length s
 unfolding matches
 match-length m [] v s i = ap (λ y. length (y .1)) (List·Memᴰ·eq-of-singleton i)

@@ -7,11 +7,13 @@ use lib.Dec.{ltb}
 use lib.ListN.{length, List·getD-map}
 use Rattle.lvs_spec.specs.Lists.{each}
 use Rattle.lvs_spec.specs.Limits.{bindingWords}
-use Rattle.lvs_spec.specs.Model.{Model}
+use Rattle.lvs_spec.specs.Model.{Model, modelOf}
+use Rattle.lvs_spec.specs.Verdict.{Verdict, verdict}
 use Rattle.lvs_spec.specs.Names.{Component, NameReading, badName, goodName, packetName, keyName}
 use Rattle.lvs_spec.specs.Walk.{Bindings, Match, noBindings, noNode, nodeAt, crossings, matches, matchesFrom, packetMatches, lists, signers, pairs}
 use Rattle.lvs_spec.specs.Answers.{usable, usableModel, matchName, matchIn, matchOutcome, signNames, signIn, signAnswer}
 use Rattle.lvs_spec.specs.Demands.{unnamedNode, unnamed}
+use Rattle.lvs_spec.proofs.Usable.{accepted-usable}
 
 node-unnamed : (m : Model) (v : ℕ) → nodeAt (unnamed m) v ≡ unnamedNode (nodeAt m v)
 unfolding nodeAt unnamed unnamedNode noNode
@@ -61,11 +63,25 @@ sign-same m (badName x) s = refl
 sign-same m (goodName ps) (badName x) = refl
 sign-same m (goodName ps) (goodName ks) = rw (pairs-same m ps ks)
 
--- two accepted models that differ only in the text of RuleNames, or in TagSymbols, give the same matches and signing answers
-pub same-answers : (a b : List ℕ) {m n : Model} → usableModel a ≡ usable m → usableModel b ≡ usable n → unnamed m ≡ unnamed n
-    → ((name buffer : List ℕ) → matchOutcome a name buffer ≡ matchOutcome b name buffer) × ((packet key : List ℕ) → signAnswer a packet key ≡ signAnswer b packet key)
+-- the same match outcomes and signing answers, for all names and buffers
+abbrev pub SameAnswers : List ℕ → List ℕ → Type 0
+SameAnswers a b =
+    ((name buffer : List ℕ) → matchOutcome a name buffer ≡ matchOutcome b name buffer) × ((packet key : List ℕ) → signAnswer a packet key ≡ signAnswer b packet key)
+
+-- two models that the calls go on with, and that differ only so
+pub same-answers : (a b : List ℕ) {m n : Model} → usableModel a ≡ usable m → usableModel b ≡ usable n → unnamed m ≡ unnamed n → SameAnswers a b
 unfolding matchOutcome matchIn signAnswer signIn
 same-answers a b {m} {n} p q e = (
-  λ name buffer. let r = packetName name in rw (p, q, matchOutcome) (sym (match-same m r buffer) ∙ ap (λ x. matchName x r buffer) e ∙ match-same n r buffer),
-  λ packet key. let r = packetName packet in let s = keyName key in rw (p, q, signAnswer) (sym (sign-same m r s) ∙ ap (λ x. signNames x r s) e ∙ sign-same n r s),
+  λ name buffer.
+      let r = packetName name in
+      rw (p, q, matchOutcome) (sym (match-same m r buffer) ∙ ap (λ x. matchName x r buffer) e ∙ match-same n r buffer),
+  λ packet key.
+      let r = packetName packet in
+      let s = keyName key in
+      rw (p, q, signAnswer) (sym (sign-same m r s) ∙ ap (λ x. signNames x r s) e ∙ sign-same n r s),
 )
+
+-- two accepted models that differ only in the text of RuleNames, or in TagSymbols, give the same matches and signing answers
+pub accepted-same : (a b : List ℕ) (i j : ℕ) → verdict a ≡ Verdict.accepted i → verdict b ≡ Verdict.accepted j
+    → unnamed (modelOf a) ≡ unnamed (modelOf b) → SameAnswers a b
+accepted-same a b i j p q e = same-answers a b (accepted-usable a i p) (accepted-usable b j q) e
