@@ -54,7 +54,8 @@ pair-found (some x) {p} {k} h =
     λ i. some (ep i, ek i)
 
 module _ {b packet key : List ℕ} {m : Model} {ps ks : List Component} (inputs : SignInputs b packet key m ps ks) where
-  sign-is : signAnswer b packet key ≡ pairFound (first (pairs m ps ks))
+  -- the answer is that of the first pair
+  pub sign-is : signAnswer b packet key ≡ pairFound (first (pairs m ps ks))
   unfolding signAnswer signIn signNames
   sign-is = rw (inputs .usable-is, signAnswer) (rw (inputs .packet-good, inputs .key-good))
 
@@ -131,7 +132,8 @@ match-found none buffer h = clash (cc)
 match-found (some x) buffer h = (x, refl)
 
 module _ {b name buffer : List ℕ} {m : Model} {cs : List Component} (inputs : MatchInputs b name buffer m cs) where
-  match-is : matchOutcome b name buffer ≡ matchFound (first (packetMatches m cs)) buffer
+  -- the outcome is that of the first match
+  pub match-is : matchOutcome b name buffer ≡ matchFound (first (packetMatches m cs)) buffer
   unfolding matchOutcome matchIn matchName
   match-is = rw (inputs .usable-is, matchOutcome) (rw (inputs .name-good, matchName) (rw (inputs .room)))
 
@@ -182,7 +184,7 @@ pub record MatchedBy (b name buffer : List ℕ) (v n : ℕ) (after : List ℕ) :
   pub count : n ≡ boundCount bindings
   pub words-are : after ≡ words bindings ++ drop bindingWords buffer
 
--- the match call answers the first match: its node and how many Tags are bound
+-- the match call answers the first match: its node and how many Tags are bound; and the buffer holds its words
 pub match-matched : (b name buffer : List ℕ) (v n : ℕ) → matchOutcome b name buffer .0 ≡ MatchAnswer.matched v n
     → MatchedBy b name buffer v n (matchOutcome b name buffer .1)
 match-matched b name buffer v n h = go (match-ended b name buffer) h
