@@ -14,8 +14,8 @@ use Rattle.lvs_spec.specs.Lists.{each, all, first, isSome}
 use Rattle.lvs_spec.specs.Limits.{maxTag, bindingWords}
 use Rattle.lvs_spec.specs.Model.{Model, ValueEdge, PatternEdge}
 use Rattle.lvs_spec.specs.Names.{Component, same, NameReading, badName, goodName, packetName}
-use Rattle.lvs_spec.specs.Walk.{Bindings, Match, noBindings, bound, bindTag, boundTo, constraintHolds, crossValue, crossPattern, nodeAt, crossings, matches, matchesFrom, packetMatches}
-use Rattle.lvs_spec.specs.Answers.{Refusal, Usable, unusable, usable, usableModel, words, MatchAnswer, Outcome, matchFound, matchName, matchIn, matchOutcome}
+use Rattle.lvs_spec.specs.Walk.{Bindings, Match, noBindings, bound, bindTag, crossValue, crosses, crossPattern, nodeAt, crossings, matches, matchesFrom, packetMatches}
+use Rattle.lvs_spec.specs.Answers.{Refusal, Usable, unusable, usable, usableModel, words, MatchAnswer, Outcome, matchFound, matchRoom, matchName, matchIn, matchOutcome}
 use Rattle.lvs_spec.proofs.Search.{each-from, when-from, first-in}
 use Rattle.lvs_spec.proofs.Signing.{clash, Ended, refusing, without, finding, match-ended}
 
@@ -35,9 +35,7 @@ value-length s c e i = ap (λ (y : Match). length (y .1)) (when-from (same (e .v
 
 pattern-length : (s : Bindings) (c : Component) (e : PatternEdge) {x : Match} → List·Memᴰ x (crossPattern s c e) → length (x .1) ≡ length s
 unfolding crossPattern
-pattern-length s c e i =
-    let t : Bool = (not (isSome (bound s (e .tag))) || boundTo s (e .tag) (c .content)) && all (constraintHolds s (c .content)) (e .constraints) in
-    ap (λ (y : Match). length (y .1)) (when-from t i .1) ∙ bindTag-length s (e .tag) c
+pattern-length s c e i = ap (λ (y : Match). length (y .1)) (when-from (crosses s (c .content) e) i .1) ∙ bindTag-length s (e .tag) c
 
 crossing-length : (m : Model) (v : ℕ) (s : Bindings) (c : Component) {x : Match} → List·Memᴰ x (crossings m v s c) → length (x .1) ≡ length s
 unfolding crossings
@@ -110,13 +108,13 @@ found-answer none buffer other = refl
 found-answer (some x) buffer other = refl
 
 name-answer : (m : Model) (r : NameReading) (buffer other : List ℕ) → length buffer ≡ length other → matchName m r buffer .0 ≡ matchName m r other .0
-unfolding matchName
+unfolding matchName matchRoom
 name-answer m (badName x) buffer other h = refl
-name-answer m (goodName cs) buffer other h = go (ltb (length other) bindingWords) refl
+name-answer m (goodName cs) buffer other h = rw h (go (ltb (length other) bindingWords))
   where
-    go : (t : Bool) → ltb (length other) bindingWords ≡ t → matchName m (goodName cs) buffer .0 ≡ matchName m (goodName cs) other .0
-    go true e = rw (h, e, matchName)
-    go false e = rw (h, e, matchName) (found-answer (first (packetMatches m cs)) buffer other)
+    go : (t : Bool) → matchRoom t m cs buffer .0 ≡ matchRoom t m cs other .0
+    go true = refl
+    go false = found-answer (first (packetMatches m cs)) buffer other
 
 -- a call's answer does not depend on what the buffer holds, only on its length
 pub answer-by-length : (b name buffer other : List ℕ) → length buffer ≡ length other → matchOutcome b name buffer .0 ≡ matchOutcome b name other .0

@@ -14,7 +14,7 @@ use Rattle.lvs_spec.specs.Limits.{bindingWords}
 use Rattle.lvs_spec.specs.Model.{Model}
 use Rattle.lvs_spec.specs.Names.{Component, NameReading, badName, goodName, packetName, keyName}
 use Rattle.lvs_spec.specs.Walk.{Bindings, Match, matchesFrom, packetMatches, lists, signers, pairs}
-use Rattle.lvs_spec.specs.Answers.{Usable, unusable, usable, usableModel, words, boundCount, Refusal, Outcome, MatchAnswer, matchFound, matchName, matchIn, matchOutcome, SignAnswer, pairFound, signNames, signIn, signAnswer}
+use Rattle.lvs_spec.specs.Answers.{Usable, unusable, usable, usableModel, words, boundCount, Refusal, Outcome, MatchAnswer, matchFound, matchRoom, matchName, matchIn, matchOutcome, SignAnswer, pairFound, signNames, signIn, signAnswer}
 use Rattle.lvs_spec.specs.Demands.{Allowed}
 use Rattle.lvs_spec.proofs.Search.{each-in, each-from, first-in, in-first, none-first, when-in, when-from}
 
@@ -134,7 +134,7 @@ match-found (some x) buffer h = (x, refl)
 module _ {b name buffer : List ℕ} {m : Model} {cs : List Component} (inputs : MatchInputs b name buffer m cs) where
   -- the outcome is that of the first match
   pub match-is : matchOutcome b name buffer ≡ matchFound (first (packetMatches m cs)) buffer
-  unfolding matchOutcome matchIn matchName
+  unfolding matchOutcome matchIn matchName matchRoom
   match-is = rw (inputs .usable-is, matchOutcome) (rw (inputs .name-good, matchName) (rw (inputs .room)))
 
   found-ended : (o : Option Match) → first (packetMatches m cs) ≡ o → Ended b name buffer (matchFound o buffer)
@@ -162,7 +162,7 @@ module _ {b name buffer : List ℕ} {m : Model} {cs : List Component} (inputs : 
   )
 
 pub match-ended : (b name buffer : List ℕ) → Ended b name buffer (matchOutcome b name buffer)
-unfolding matchOutcome matchIn matchName
+unfolding matchOutcome matchIn matchName matchRoom
 match-ended b name buffer = go (usableModel b) (packetName name) (ltb (length buffer) bindingWords) refl refl refl
   where
     go : (u : Usable) (r : NameReading) (t : Bool) → usableModel b ≡ u → packetName name ≡ r → ltb (length buffer) bindingWords ≡ t

@@ -11,7 +11,7 @@ use Rattle.lvs_spec.specs.Model.{Model, modelOf}
 use Rattle.lvs_spec.specs.Verdict.{Verdict, verdict}
 use Rattle.lvs_spec.specs.Names.{Component, NameReading, badName, goodName, packetName, keyName}
 use Rattle.lvs_spec.specs.Walk.{Bindings, Match, noBindings, noNode, nodeAt, crossings, matches, matchesFrom, packetMatches, lists, signers, pairs}
-use Rattle.lvs_spec.specs.Answers.{usable, usableModel, matchName, matchIn, matchOutcome, signNames, signIn, signAnswer}
+use Rattle.lvs_spec.specs.Answers.{usable, usableModel, matchRoom, matchName, matchIn, matchOutcome, signNames, signIn, signAnswer}
 use Rattle.lvs_spec.specs.Demands.{unnamedNode, unnamed}
 use Rattle.lvs_spec.proofs.Usable.{accepted-usable}
 
@@ -49,13 +49,13 @@ pairs-same m packet key =
     rw (matches-same m packet) (ap (λ (g : Match → List (ℕ × ℕ)). each g (packetMatches m packet)) (fun-ext (signers-unnamed m key)))
 
 match-same : (m : Model) (r : NameReading) (buffer : List ℕ) → matchName (unnamed m) r buffer ≡ matchName m r buffer
-unfolding matchName
+unfolding matchName matchRoom
 match-same m (badName x) buffer = refl
-match-same m (goodName cs) buffer = go (ltb (length buffer) bindingWords) refl
+match-same m (goodName cs) buffer = go (ltb (length buffer) bindingWords)
   where
-    go : (t : Bool) → ltb (length buffer) bindingWords ≡ t → matchName (unnamed m) (goodName cs) buffer ≡ matchName m (goodName cs) buffer
-    go true e = rw (e, matchName)
-    go false e = rw (e, matchName) (rw (matches-same m cs))
+    go : (t : Bool) → matchRoom t (unnamed m) cs buffer ≡ matchRoom t m cs buffer
+    go true = refl
+    go false = rw (matches-same m cs)
 
 sign-same : (m : Model) (r s : NameReading) → signNames (unnamed m) r s ≡ signNames m r s
 unfolding signNames

@@ -59,10 +59,14 @@ unfoldable pub matchFound : Option Match → List ℕ → Outcome
 matchFound none buffer = (noMatch, buffer)
 matchFound (some m) buffer = (matched (m .0) (boundCount (m .1)), words (m .1) ++ drop bindingWords buffer)
 
+-- 27 is tested last
+unfoldable pub matchRoom : Bool → Model → List Component → List ℕ → Outcome
+matchRoom true m cs buffer = (MatchAnswer.refused (plain 27), buffer)
+matchRoom false m cs buffer = matchFound (first (packetMatches m cs)) buffer
+
 unfoldable pub matchName : Model → NameReading → List ℕ → Outcome
 matchName m (badName r) buffer = (MatchAnswer.refused (plain r), buffer)
-matchName m (goodName cs) buffer =
-    elim (ltb (length buffer) bindingWords) [ true ↦ (MatchAnswer.refused (plain 27), buffer) | false ↦ matchFound (first (packetMatches m cs)) buffer ]
+matchName m (goodName cs) buffer = matchRoom (ltb (length buffer) bindingWords) m cs buffer
 
 unfoldable pub matchIn : Usable → List ℕ → List ℕ → Outcome
 matchIn (unusable r) name buffer = (MatchAnswer.refused r, buffer)

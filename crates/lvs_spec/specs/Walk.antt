@@ -71,10 +71,11 @@ unfoldable pub crossValue : Bindings → Component → ValueEdge → List Match
 crossValue s c e = when (same (e .value) (c .content)) (e .destination, s)
 
 -- 1. the Tag is unbound, or bound to an equal component; 2. each Constraint holds under the bindings as they stood before this edge
+unfoldable pub crosses : Bindings → Element → PatternEdge → Bool
+crosses s c e = (not (isSome (bound s (e .tag))) || boundTo s (e .tag) c) && all (constraintHolds s c) (e .constraints)
+
 unfoldable pub crossPattern : Bindings → Component → PatternEdge → List Match
-crossPattern s c e =
-    when ((not (isSome (bound s (e .tag))) || boundTo s (e .tag) (c .content)) && all (constraintHolds s (c .content)) (e .constraints))
-    (e .destination, bindTag s (e .tag) c)
+crossPattern s c e = when (crosses s (c .content) e) (e .destination, bindTag s (e .tag) c)
 
 unfoldable pub noNode : Node
 noNode = record { id = 0; parent = none; ruleNames = []; valueEdges = []; patternEdges = []; signers = [] }

@@ -172,7 +172,7 @@ pub record Step (s : List ℕ) (at kind start stop : ℕ) (n : Place) : Type 0 w
   pub before : at < start
   pub order : start ≤ stop
   pub within : stop ≤ length s
-  pub unreadable-is : cuts (drop at s) ≡ next (record { type = kind; inside = take (stop - start) (drop start s) }) (cuts (drop (n .at) s))
+  pub cut-is : cuts (drop at s) ≡ next (record { type = kind; inside = take (stop - start) (drop start s) }) (cuts (drop (n .at) s))
 
 -- what each answer of the reader says of the list from its place on
 abbrev pub Seen : List ℕ → ℕ → Read → Type 0
@@ -195,7 +195,7 @@ found-step s at h e rest p w =
       before = omega arith;
       order = omega arith;
       within = omega arith;
-      unreadable-is = cuts-next (drop at s) h e rest p ∙ (λ i. next (record { type = e .type; inside = ei i }) (cuts (er i)));
+      cut-is = cuts-next (drop at s) h e rest p ∙ (λ i. next (record { type = e .type; inside = ei i }) (cuts (er i)));
     }
 
 read-seen : (s : List ℕ) (at : ℕ) → Seen s at (readAt s at)
