@@ -1,20 +1,20 @@
 -- What a match call leaves in the binding buffer, and what of the buffer its answer depends on. Assumes nothing.
-use Prim.Native.Nat.{ℕ, _+_, _-_}
+use Prim.Native.Nat.{ℕ, zero, suc, _+_}
 use mathlib.Core.Path.{_≡_, refl, ap, _∙_}
 use mathlib.Core.Logic.{⊎-elim}
-use mathlib.Core.Bool.{Bool, true, false, _&&_, _||_, not}
+use mathlib.Core.Bool.{Bool, true, false, cond}
 use mathlib.Core.List.{List, [], _∷_, List·Memᴰ, List·Memᴰ·eq-of-singleton, List·Memᴰ·append-cases}
 use mathlib.Core.Option.{Option, none, some}
 use native.Mathlib.Omega.{arith}
 use borrow.Author.Tests.{ltb-false}
 use lib.Dec.{ltb}
-use lib.ListN.{length, drop, length-append, length-drop, length-set, length-replicate}
+use lib.ListN.{length, drop, length-append, length-drop, length-set, length-replicate, getD, set}
 use lib.Seq.{drop-at}
-use Rattle.lvs_spec.specs.Lists.{each, all, first, isSome}
+use Rattle.lvs_spec.specs.Lists.{each, first, isSome}
 use Rattle.lvs_spec.specs.Limits.{maxTag, bindingWords}
 use Rattle.lvs_spec.specs.Model.{Model, ValueEdge, PatternEdge}
 use Rattle.lvs_spec.specs.Names.{Component, same, NameReading, badName, goodName, packetName}
-use Rattle.lvs_spec.specs.Walk.{Bindings, Match, noBindings, bound, bindTag, crossValue, crosses, crossPattern, nodeAt, crossings, matches, matchesFrom, packetMatches}
+use Rattle.lvs_spec.specs.Walk.{Bindings, Match, noBindings, bindTag, crossValue, crosses, crossPattern, nodeAt, crossings, matches, matchesFrom, packetMatches}
 use Rattle.lvs_spec.specs.Answers.{Refusal, Usable, unusable, usable, usableModel, words, MatchAnswer, Outcome, matchFound, matchRoom, matchName, matchIn, matchOutcome}
 use Rattle.lvs_spec.proofs.Search.{each-from, when-from, first-in}
 use Rattle.lvs_spec.proofs.Signing.{clash, Ended, refusing, without, finding, match-ended}
@@ -23,11 +23,12 @@ use Rattle.lvs_spec.proofs.Signing.{clash, Ended, refusing, without, fi
 
 bindTag-length : (s : Bindings) (t : ℕ) (c : Component) → length (bindTag s t c) ≡ length s
 unfolding bindTag
-bindTag-length s t c = go (bound s t) refl
+bindTag-length s zero c = refl
+bindTag-length s (suc i) c = go (isSome (getD s i none))
   where
-    go : (o : Option Component) → bound s t ≡ o → length (bindTag s t c) ≡ length s
-    go none e = rw (e, bindTag) (length-set s (t - 1) (some c))
-    go (some d) e = rw (e, bindTag)
+    go : (b : Bool) → length (cond b s (set s i (some c))) ≡ length s
+    go true = refl
+    go false = length-set s i (some c)
 
 value-length : (s : Bindings) (c : Component) (e : ValueEdge) {x : Match} → List·Memᴰ x (crossValue s c e) → length (x .1) ≡ length s
 unfolding crossValue

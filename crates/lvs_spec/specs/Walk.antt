@@ -1,6 +1,6 @@
 -- The walk (document 01, "Names and the walk"): all matches of a name, depth first, and all pairs that may sign.
-use Prim.Native.Nat.{ℕ, zero, suc, _-_}
-use mathlib.Core.Bool.{Bool, true, false, _&&_, _||_, not}
+use Prim.Native.Nat.{ℕ, zero, suc}
+use mathlib.Core.Bool.{Bool, true, false, cond, _&&_, _||_, not}
 use mathlib.Core.List.{List, [], _∷_, _++_, map}
 use mathlib.Core.Option.{Option, none, some}
 use lib.Dec.{eqb}
@@ -22,11 +22,13 @@ unfoldable pub noBindings : Bindings
 noBindings = replicate maxTag none
 
 unfoldable pub bound : Bindings → ℕ → Option Component
-bound s t = getD s (t - 1) none
+bound s zero = none
+bound s (suc i) = getD s i none
 
 -- a bound Tag keeps its first place
 unfoldable pub bindTag : Bindings → ℕ → Component → Bindings
-bindTag s t c = elim (bound s t) [ none ↦ set s (t - 1) (some c) | some d ↦ s ]
+bindTag s zero c = s
+bindTag s (suc i) c = cond (isSome (getD s i none)) s (set s i (some c))
 
 unfoldable pub boundTo : Bindings → ℕ → Element → Bool
 boundTo s t c = is (λ d. same (d .content) c) (bound s t)
