@@ -172,6 +172,7 @@ pub record Step (s : List ℕ) (at kind start stop : ℕ) (n : Place) : Type 0 w
   pub before : at < start
   pub order : start ≤ stop
   pub within : stop ≤ length s
+  pub first-is : element (drop at s) ≡ first (start - at) (record { type = kind; inside = take (stop - start) (drop start s) }) (drop stop s)
   pub cut-is : cuts (drop at s) ≡ next (record { type = kind; inside = take (stop - start) (drop start s) }) (cuts (drop (n .at) s))
 
 -- what each answer of the reader says of the list from its place on
@@ -188,6 +189,7 @@ found-step s at h e rest p w =
     let l = w .inside-length in
     let n1 : w .size ≡ stop - (at + h) = omega arith in
     let n2 : at + (h + w .size) ≡ stop = omega arith in
+    let hh : h ≡ at + h - at = omega arith in
     let ei : e .inside ≡ take (stop - (at + h)) (drop (at + h) s) = w .inside-is ∙ rw (n1, drop-drop h at s) in
     let er : rest ≡ drop stop s = w .rest-is ∙ rw (drop-drop (h + w .size) at s, n2) in
     record {
@@ -195,6 +197,7 @@ found-step s at h e rest p w =
       before = omega arith;
       order = omega arith;
       within = omega arith;
+      first-is = p ∙ (λ i. first (hh i) (record { type = e .type; inside = ei i }) (er i));
       cut-is = cuts-next (drop at s) h e rest p ∙ (λ i. next (record { type = e .type; inside = ei i }) (cuts (er i)));
     }
 

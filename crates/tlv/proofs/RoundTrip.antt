@@ -13,9 +13,10 @@ use lib.Seq.{take-at, drop-append-seam, drop-append-add, take-append-seam, drop-
 use Rattle.tlv.specs.Bytes.{Bytes, bigEndian, bigEndianBytes}
 use Rattle.tlv.specs.Number.{Num, unreadable, num, width, least, mark, wide, number, numberBytes, integerSize, integer}
 use Rattle.tlv.specs.Element.{Element, First, first, end, malformed, element, typed, sized, typeInRange, Cuts, done, broken, next, after, cutsBy, cuts, also, whole, split, elementBytes, encode, InRange, Each, nexts}
+use Rattle.tlv.specs.declared.Place.{Place}
 use Rattle.tlv.proofs.Bytes.{bytes-left, bytes-right, bytes-append, bytes-spelled, bytes-drop, bytes-take, big-lt, length-spelled, big-spelled, spelled-big}
 use Rattle.tlv.proofs.Numbers.{Shape, one, many, shape, unreadable-num}
-use Rattle.tlv.proofs.Cuts.{Whole, element-whole, cuts-next, cuts-end, cuts-malformed, none-some, also-some, element-nil, done-nil}
+use Rattle.tlv.proofs.Cuts.{Step, Whole, element-whole, cuts-next, cuts-end, cuts-malformed, none-some, also-some, element-nil, done-nil}
 
 -- ---- a number
 
@@ -147,6 +148,15 @@ whole-bytes b {h} {e} {r} by w =
     let dr : r ≡ drop n (drop j (drop k b)) = w .rest-is ∙ sym (drop-drop n h b) ∙ ap (drop n) di in
     simp append-assoc
     ((λ i. nt i ++ (nl i ++ (ei i ++ dr i))) ∙ rw (take-append-drop n (drop j (drop k b)), take-append-drop j (drop k b), take-append-drop k b))
+
+-- an element that was read takes as many bytes as its encoding
+pub element-size : (b : List ℕ) {h : ℕ} {e : Element} {r : List ℕ} → Bytes b → element b ≡ first h e r → length (elementBytes e) + length r ≡ length b
+element-size b {h} {e} {r} by p = sym (length-append (elementBytes e) r) ∙ ap length (whole-bytes b by (element-whole b h e r p))
+
+pub step-size : {s : List ℕ} {at kind start stop : ℕ} {n : Place} → Bytes s → (f : Step s at kind start stop n)
+    → length (elementBytes (record { type = kind; inside = take (stop - start) (drop start s) })) ≡ stop - at
+step-size {s} {at} {kind} {start} {stop} by f =
+    omega (arith, element-size (drop at s) (bytes-drop at s by) (f .first-is), length-drop at s, length-drop stop s, f .before, f .order, f .within)
 
 -- ---- the whole list
 
