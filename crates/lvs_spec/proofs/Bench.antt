@@ -9,7 +9,7 @@ use Rattle.lvs_spec.specs.Leaves.{isComponent, oneComponent, letter, let
 use Rattle.lvs_spec.specs.WellFormed.{insideOk, inOrder, wellFormedBy, wellFormed, firstKnown, isOtherVersion, otherVersion, tooLong}
 use Rattle.lvs_spec.specs.Model.{eachCut, insideOf, insides, numberOf, integers, theInside, theInteger, componentFrom, componentOf, argumentFrom, argumentOf, callOf, termFrom, optionOf, constraintOf, valueEdgeOf, patternEdgeOf, nodeOf, symbolOf, modelOf}
 use Rattle.lvs_spec.specs.Verdict.{functionNames, functionIn, functionOf, arity, destinations, options, terms, callsIn, calls, argumentTags, termTags, nodeTags, tags, namesNone, badTag, notParent, badCall, firstFault, rules, decide, judge, reading, verdict}
-use Rattle.lvs_spec.specs.Names.{same, componentsAt, nameFrom, nameOf, nameReading, packetName, keyName}
+use Rattle.lvs_spec.specs.Names.{same, componentsAt, nameFrom, nameOf, rowReading, nameReading, packetName, keyName}
 use Rattle.lvs_spec.specs.Walk.{noBindings, bound, bindTag, boundTo, argumentIn, holds, callHolds, termHolds, optionHolds, constraintHolds, crossValue, crosses, crossPattern, noNode, nodeAt, crossings, matches, matchesFrom, packetMatches, lists, signers, pairs}
 use Rattle.lvs_spec.specs.Answers.{judged, usableModel, words, boundCount, matchFound, matchRoom, matchName, matchIn, matchOutcome, pairFound, signNames, signIn, signAnswer}
 use Rattle.lvs_spec.specs.Bench.{verdictNumbers, matchNumbers, signNumbers, passes, published, ours}
@@ -21,7 +21,7 @@ unfolding integer sameBytes bigEndian bigEndianBytes width least wide number mar
     insideOk inOrder wellFormedBy wellFormed firstKnown isOtherVersion otherVersion tooLong
     eachCut insideOf insides numberOf integers theInside theInteger componentFrom componentOf argumentFrom argumentOf callOf termFrom optionOf constraintOf valueEdgeOf patternEdgeOf nodeOf symbolOf modelOf
     functionNames functionIn functionOf arity destinations options terms callsIn calls argumentTags termTags nodeTags tags namesNone badTag notParent badCall firstFault rules decide judge reading verdict
-    same componentsAt nameFrom nameOf nameReading packetName keyName
+    same componentsAt nameFrom nameOf rowReading nameReading packetName keyName
     noBindings bound bindTag boundTo argumentIn holds callHolds termHolds optionHolds constraintHolds crossValue crosses crossPattern noNode nodeAt crossings matches matchesFrom packetMatches lists signers pairs
     judged usableModel words boundCount matchFound matchRoom matchName matchIn matchOutcome pairFound signNames signIn signAnswer
     verdictNumbers matchNumbers signNumbers passes

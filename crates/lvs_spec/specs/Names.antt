@@ -1,6 +1,6 @@
 -- Names and their components (document 01, "Names and the walk"), and refusals 21 to 26.
 use Prim.Native.Nat.{ℕ, _+_}
-use mathlib.Core.Bool.{Bool, true, false, _&&_}
+use mathlib.Core.Bool.{Bool, true, false, cond, _&&_}
 use mathlib.Core.List.{List, [], _∷_}
 use mathlib.Core.Option.{Option, none, some}
 use lib.Dec.{ltb, eqb}
@@ -44,15 +44,12 @@ pub data NameReading : Type 0 where
   badName : ℕ → NameReading
   goodName : List Component → NameReading
 
+unfoldable pub rowReading : ℕ → Option (List Component) → NameReading
+rowReading base none = badName (base + 1)
+rowReading base (some cs) = cond (ltb maxComponents (length cs)) (badName (base + 2)) (goodName cs)
+
 unfoldable pub nameReading : ℕ → List ℕ → NameReading
-nameReading base b =
-    elim (ltb maxNameBytes (length b)) [
-      | true ↦ badName base
-      | false ↦ elim (nameOf b) [
-        | none ↦ badName (base + 1)
-        | some cs ↦ elim (ltb maxComponents (length cs)) [ true ↦ badName (base + 2) | false ↦ goodName cs ]
-      ]
-    ]
+nameReading base b = cond (ltb maxNameBytes (length b)) (badName base) (rowReading base (nameOf b))
 
 unfoldable pub packetName : List ℕ → NameReading
 packetName b = nameReading 21 b

@@ -214,6 +214,24 @@ read-seen s at = go (element (drop at s)) refl
 pub seen : (s : List ℕ) (at : ℕ) {r a : Read} → r ≡ readAt s at → r ≡ a → Seen s at a
 seen s at {r} {a} e f = subst (Seen s at) (sym e ∙ f) (read-seen s at)
 
+-- the same of what stands first
+abbrev pub FirstSeen : List ℕ → ℕ → Read → Type 0
+FirstSeen s at (Found kind start stop n) = Step s at kind start stop n
+FirstSeen s at End = element (drop at s) ≡ end
+FirstSeen s at Malformed = element (drop at s) ≡ malformed
+
+read-first : (s : List ℕ) (at : ℕ) → FirstSeen s at (readAt s at)
+unfolding readAt
+read-first s at = go (element (drop at s)) refl
+  where
+    go : (f : First) → element (drop at s) ≡ f → FirstSeen s at (readFrom at f)
+    go end p = p
+    go malformed p = p
+    go (first h e rest) p = found-step s at h e rest p (element-whole (drop at s) h e rest p)
+
+pub first-seen : (s : List ℕ) (at : ℕ) {r a : Read} → r ≡ readAt s at → r ≡ a → FirstSeen s at a
+first-seen s at {r} {a} e f = subst (FirstSeen s at) (sym e ∙ f) (read-first s at)
+
 -- ---- the same for `split`
 
 pub split-end : (b : List ℕ) → cuts b ≡ done → split b ≡ some []

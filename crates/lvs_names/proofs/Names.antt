@@ -1,0 +1,232 @@
+-- Names at their places, by the tests that the readers make. Assumes nothing.
+use Prim.Native.Nat.{ℕ, zero, suc, _+_, _-_, _≤_, _<_}
+use mathlib.Core.Path.{_≡_, refl, sym, ap, _∙_}
+use mathlib.Core.Bool.{Bool, true, false, cond, _&&_}
+use mathlib.Core.List.{List, [], _∷_}
+use mathlib.Core.Option.{Option, none, some, Option·some-injective}
+use native.Mathlib.Omega.{arith}
+use borrow.Author.Tests.{eq-eqb, ne-eqb, le-leb, lt-leb, lt-ltb, le-ltb, eqb-true}
+use lib.Dec.{eqb, leb, ltb}
+use lib.ListN.{length, take, drop, length-drop}
+use lib.Seq.{length-take-le, take-all}
+use Rattle.tlv.specs.Bytes.{Bytes, sameBytes}
+use Rattle.tlv.specs.Element.{Element, First, end, malformed, first, element, Cuts, done, broken, next, cuts, elementBytes}
+use Rattle.tlv.specs.declared.Place.{Place}
+use Rattle.tlv.proofs.Cuts.{Step, element-whole}
+use Rattle.tlv.proofs.RoundTrip.{step-size}
+use Rattle.lvs_spec.specs.Lists.{bind, guard}
+use Rattle.lvs_spec.specs.Limits.{maxComponentType, maxComponents, maxNameBytes}
+use Rattle.lvs_spec.specs.Types as type
+use Rattle.lvs_spec.specs.Leaves.{isComponent}
+use Rattle.lvs_spec.specs.Model.{componentFrom, componentOf}
+use Rattle.lvs_spec.specs.Names.{Component, same, componentsAt, nameFrom, nameOf, NameReading, badName, goodName, rowReading, nameReading}
+use Rattle.lvs_names.specs.Rows.{rowAt, rowFrom}
+use Rattle.lvs_names.specs.Reading.{headerFrom, headerOf, countedFrom, countOf}
+use Rattle.lvs_names.specs.Contents.{ContentOf}
+use Rattle.lvs_names.specs.declared.Content.{Content}
+use Rattle.lvs_names.specs.declared.Counted.{Counted}
+use Rattle.lvs_names.specs.declared.Counted.the-variants.{Components, Malformed}
+
+-- ---- the header
+
+header-none : (b : List ℕ) → element b ≡ end → headerOf b ≡ 0
+unfolding headerOf headerFrom
+header-none b p = rw p
+
+pub header-end : (b : List ℕ) → element (drop 0 b) ≡ end → headerOf b ≡ 0
+header-end b p = header-none b p
+
+pub header-malformed : (b : List ℕ) → element (drop 0 b) ≡ malformed → headerOf b ≡ 0
+unfolding headerOf headerFrom
+header-malformed b p = rw p
+
+module _ {b : List ℕ} {typ start stop : ℕ} {p : Place} (f : Step b 0 typ start stop p) where
+  header-is : headerOf b ≡ cond (eqb typ type.Name && eqb (length (drop stop b)) 0) (start - 0) 0
+  unfolding headerOf headerFrom
+  header-is = rw (f .first-is)
+
+  pub header-type : (typ ≡ type.Name → ⊥) → headerOf b ≡ 0
+  header-type n = header-is ∙ rw (ne-eqb typ type.Name n)
+
+  pub header-more : typ ≡ type.Name → (stop ≡ length b → ⊥) → headerOf b ≡ 0
+  header-more e n = header-is ∙ rw (eq-eqb typ type.Name e, ne-eqb (length (drop stop b)) 0 (λ z. n (omega (arith, length-drop stop b, f .within))))
+
+  pub header-found : typ ≡ type.Name → stop ≡ length b → headerOf b ≡ start
+  header-found e n =
+      let z : length (drop stop b) ≡ 0 = omega (arith, length-drop stop b) in
+      header-is ∙ rw (eq-eqb typ type.Name e, eq-eqb (length (drop stop b)) 0 z) (omega arith)
+
+-- ---- counting
+
+pub count-none : (n at : ℕ) (b : List ℕ) → cuts (drop at b) ≡ done → countedFrom n (componentsAt at (cuts (drop at b))) ≡ Components n
+unfolding componentsAt countedFrom
+count-none n at b p = rw p (ap Components (omega arith))
+
+pub count-broken : (n at : ℕ) (b : List ℕ) → cuts (drop at b) ≡ broken → countedFrom n (componentsAt at (cuts (drop at b))) ≡ Malformed
+unfolding componentsAt countedFrom
+count-broken n at b p = rw p
+
+-- one component in front of what o says
+added : ℕ → Element → Option (List Component) → Option (List Component)
+added at e o = bind o λ cs. guard (isComponent e) (record { start = at; size = length (elementBytes e); content = e } ∷ cs)
+
+added-large : (n at : ℕ) (e : Element) (o : Option (List Component)) → isComponent e ≡ false → countedFrom n (added at e o) ≡ Malformed
+unfolding added countedFrom
+added-large n at e none h = refl
+added-large n at e (some cs) h = rw h
+
+added-one : (n at : ℕ) (e : Element) (o : Option (List Component)) → isComponent e ≡ true → countedFrom n (added at e o) ≡ countedFrom (n + 1) o
+unfolding added countedFrom
+added-one n at e none h = refl
+added-one n at e (some cs) h = rw h (ap Components (omega arith))
+
+module _ {b : List ℕ} {at typ start stop : ℕ} {p : Place} (bytes : Bytes b) (f : Step b at typ start stop p) where
+  abbrev here : Element
+  here = record { type = typ; inside = take (stop - start) (drop start b) }
+
+  components-is : componentsAt at (cuts (drop at b)) ≡ added at here (componentsAt (p .at) (cuts (drop (p .at) b)))
+  unfolding componentsAt added
+  components-is =
+      let e : at + length (elementBytes here) ≡ p .at = omega (arith, step-size bytes f, f .moved, f .before, f .order) in
+      rw (f .cut-is, e)
+
+  pub count-large : (n : ℕ) → maxComponentType < typ → countedFrom n (componentsAt at (cuts (drop at b))) ≡ Malformed
+  unfolding isComponent
+  count-large n h = rw components-is (added-large n at here _ (lt-leb typ maxComponentType h))
+
+  pub count-one : (n : ℕ) → typ ≤ maxComponentType → countedFrom n (componentsAt at (cuts (drop at b))) ≡ countedFrom (n + 1) (componentsAt (p .at) (cuts (drop (p .at) b)))
+  unfolding isComponent
+  count-one n h = rw components-is (added-one n at here _ (le-leb typ maxComponentType h))
+
+-- ---- a component that a slice begins with
+
+pub content-end : (b : List ℕ) → element (drop 0 b) ≡ end → ContentOf b (record { typ = 0; start = 0; end = 0 })
+unfolding componentOf componentFrom
+content-end b p = record { order = omega arith; within = omega arith; is = rw p }
+
+pub content-malformed : (b : List ℕ) → element (drop 0 b) ≡ malformed → ContentOf b (record { typ = 0; start = 0; end = 0 })
+unfolding componentOf componentFrom
+content-malformed b p = record { order = omega arith; within = omega arith; is = rw p }
+
+pub content-found : {b : List ℕ} {typ start stop : ℕ} {p : Place} → Step b 0 typ start stop p → ContentOf b (record { typ = typ; start = start; end = stop })
+unfolding componentOf componentFrom
+content-found f = record { order = f .order; within = f .within; is = rw (f .first-is) }
+
+module _ {a b : List ℕ} {x y : Content} (X : ContentOf a x) (Y : ContentOf b y) where
+  pub same-is : same (componentOf a) (componentOf b) ≡ (eqb (x .typ) (y .typ) && sameBytes (take (x .end - x .start) (drop (x .start) a)) (take (y .end - y .start) (drop (y .start) b)))
+  unfolding same
+  same-is = rw (X .is, Y .is)
+
+  pub types-differ : (x .typ ≡ y .typ → ⊥) → same (componentOf a) (componentOf b) ≡ false
+  types-differ n = same-is ∙ rw (ne-eqb (x .typ) (y .typ) n)
+
+  pub types-agree : x .typ ≡ y .typ
+      → same (componentOf a) (componentOf b) ≡ sameBytes (take (x .end - x .start) (drop (x .start) a)) (take (y .end - y .start) (drop (y .start) b))
+  types-agree e = same-is ∙ rw (eq-eqb (x .typ) (y .typ) e)
+
+  pub type-is : eqb (componentOf a .type) (componentOf b .type) ≡ eqb (x .typ) (y .typ)
+  type-is = rw (X .is, Y .is)
+
+pub size-is : {a : List ℕ} {x : Content} → ContentOf a x → length (componentOf a .inside) ≡ x .end - x .start
+size-is {a} {x} X = rw (X .is) (length-take-le (x .end - x .start) (drop (x .start) a) (simp length-drop (omega (arith, X .within))))
+
+-- ---- the whole name
+
+-- components that pass the tests are the row that the walk goes along
+row-same : (at : ℕ) (c : Cuts) (cs : List Component) → componentsAt at c ≡ some cs → rowAt at c ≡ cs
+unfolding componentsAt rowAt
+row-same at done cs h = cc
+row-same at broken cs h = let z : _≡_ {A = ℕ} 0 1 = cc in absurd (omega arith)
+row-same at (next e rest) cs h =
+    go (componentsAt (at + length (elementBytes e)) rest) (isComponent e) refl h (row-same (at + length (elementBytes e)) rest)
+  where
+    go : (o : Option (List Component)) (t : Bool) → componentsAt (at + length (elementBytes e)) rest ≡ o
+        → (bind o λ ds. guard t (record { start = at; size = length (elementBytes e); content = e } ∷ ds)) ≡ some cs
+        → ((ds : List Component) → componentsAt (at + length (elementBytes e)) rest ≡ some ds → rowAt (at + length (elementBytes e)) rest ≡ ds)
+        → rowAt at (next e rest) ≡ cs
+    go none t p q rec = let z : _≡_ {A = ℕ} 0 1 = cc in absurd (omega arith)
+    go (some ds) false p q rec = let z : _≡_ {A = ℕ} 0 1 = cc in absurd (omega arith)
+    go (some ds) true p q rec = rw (rec ds p) (Option·some-injective _ _ q)
+
+module _ (b : List ℕ) where
+  -- what a header says of the name
+  no-header : headerOf b ≡ 0 → nameOf b ≡ none
+  unfolding headerOf headerFrom nameOf nameFrom
+  no-header h = go (element b) refl h
+    where
+      go : (f : First) → element b ≡ f → headerFrom f ≡ 0 → nameFrom f ≡ none
+      go end p q = refl
+      go malformed p q = refl
+      go (first k e rest) p q = by (eqb (e .type) type.Name && eqb (length rest) 0) q
+        where
+          by : (t : Bool) → cond t k 0 ≡ 0 → (bind (guard t e) λ n. componentsAt k (cuts (n .inside))) ≡ none
+          by true q = absurd (omega (arith, element-whole b k e rest p .some))
+          by false q = refl
+
+  header-name : (0 < headerOf b) → nameOf b ≡ componentsAt (headerOf b) (cuts (drop (headerOf b) b))
+  unfolding headerOf headerFrom nameOf nameFrom
+  header-name h = go (element b) refl h
+    where
+      go : (f : First) → element b ≡ f → 0 < headerFrom f → nameFrom f ≡ componentsAt (headerFrom f) (cuts (drop (headerFrom f) b))
+      go end p q = absurd (omega arith)
+      go malformed p q = absurd (omega arith)
+      go (first k e rest) p q = by (eqb (e .type) type.Name) (eqb (length rest) 0) refl q
+        where
+          by : (t u : Bool) → eqb (length rest) 0 ≡ u → 0 < cond (t && u) k 0
+              → (bind (guard (t && u) e) λ n. componentsAt k (cuts (n .inside))) ≡ componentsAt (cond (t && u) k 0) (cuts (drop (cond (t && u) k 0) b))
+          by true true r q =
+              let w = element-whole b k e rest p in
+              let z = eqb-true (length rest) 0 r in
+              let l : length (drop k b) ≤ w .size = omega (arith, length-drop k b, length-drop (k + w .size) b, ap length (w .rest-is)) in
+              ap (λ (s : List ℕ). componentsAt k (cuts s)) (w .inside-is ∙ take-all (w .size) (drop k b) l)
+          by true false r q = absurd (omega arith)
+          by false u r q = absurd (omega arith)
+
+  module _ (base : ℕ) where
+    pub too-long : maxNameBytes < length b → nameReading base b ≡ badName base
+    unfolding nameReading
+    too-long h = rw (lt-ltb maxNameBytes (length b) h, nameReading)
+
+    module _ (short : length b ≤ maxNameBytes) where
+      named : {o : Option (List Component)} → nameOf b ≡ o → nameReading base b ≡ rowReading base o
+      unfolding nameReading
+      named p = rw (le-ltb maxNameBytes (length b) short, p)
+
+      pub headless : headerOf b ≡ 0 → nameReading base b ≡ badName (base + 1)
+      unfolding rowReading
+      headless h = named (no-header h)
+
+      module _ {r : Counted} (some-header : 0 < headerOf b) (counted : r ≡ countOf b (headerOf b)) where
+        counted-is : (o : Option (List Component)) → componentsAt (headerOf b) (cuts (drop (headerOf b) b)) ≡ o → (r ≡ countedFrom 0 o) × (nameReading base b ≡ rowReading base o)
+        unfolding countOf
+        counted-is o p = (counted ∙ rw p, named (header-name some-header ∙ p))
+
+        pub malformed-name : r ≡ Malformed → nameReading base b ≡ badName (base + 1)
+        unfolding countedFrom rowReading
+        malformed-name e = go (componentsAt (headerOf b) (cuts (drop (headerOf b) b))) refl
+          where
+            go : (o : Option (List Component)) → componentsAt (headerOf b) (cuts (drop (headerOf b) b)) ≡ o → nameReading base b ≡ badName (base + 1)
+            go none p = counted-is none p .1
+            go (some cs) p = let x = counted-is (some cs) p .0 in let z : _≡_ {A = ℕ} 0 1 = cc in absurd (omega arith)
+
+        pub many-components : (n : ℕ) → r ≡ Components n → maxComponents < n → nameReading base b ≡ badName (base + 2)
+        unfolding countedFrom rowReading
+        many-components n e h = go (componentsAt (headerOf b) (cuts (drop (headerOf b) b))) refl
+          where
+            go : (o : Option (List Component)) → componentsAt (headerOf b) (cuts (drop (headerOf b) b)) ≡ o → nameReading base b ≡ badName (base + 2)
+            go none p = let x = counted-is none p .0 in let z : _≡_ {A = ℕ} 0 1 = cc in absurd (omega arith)
+            go (some cs) p =
+                let x = counted-is (some cs) p .0 in
+                let y : n ≡ 0 + length cs = cc in
+                counted-is (some cs) p .1 ∙ rw (lt-ltb maxComponents (length cs) (omega arith))
+
+        pub good-name : (n : ℕ) → r ≡ Components n → n ≤ maxComponents → nameReading base b ≡ goodName (rowFrom b (headerOf b))
+        unfolding countedFrom rowReading rowFrom
+        good-name n e h = go (componentsAt (headerOf b) (cuts (drop (headerOf b) b))) refl
+          where
+            go : (o : Option (List Component)) → componentsAt (headerOf b) (cuts (drop (headerOf b) b)) ≡ o → nameReading base b ≡ goodName (rowAt (headerOf b) (cuts (drop (headerOf b) b)))
+            go none p = let x = counted-is none p .0 in let z : _≡_ {A = ℕ} 0 1 = cc in absurd (omega arith)
+            go (some cs) p =
+                let x = counted-is (some cs) p .0 in
+                let y : n ≡ 0 + length cs = cc in
+                counted-is (some cs) p .1 ∙ rw (le-ltb maxComponents (length cs) (omega arith)) (ap goodName (sym (row-same (headerOf b) (cuts (drop (headerOf b) b)) cs p)))

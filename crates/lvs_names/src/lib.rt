@@ -1,0 +1,168 @@
+// Names and their components (document 01, "Names and the walk"), read at their places and never copied.
+ghost use mathlib.Core.Path.{_≡_};
+ghost use Prim.Native.Nat.{_+_, _≤_};
+ghost use lib.Dec.{eqb};
+ghost use lib.ListN.{length};
+ghost use Rattle.lvs_spec.specs.Model.{componentOf};
+ghost use Rattle.lvs_spec.specs.Names.{same, nameReading};
+ghost use Rattle.lvs_names.specs.Reading.{nameRead, headerOf, countOf};
+ghost use Rattle.lvs_names.specs.Contents.{ContentOf};
+use tlv::Place;
+use tlv::Read;
+
+const NAME: u32 = 7;
+
+const MAX_COMPONENT_TYPE: u32 = 65535;
+
+pub enum NameRead {
+    // The place of the first component.
+    Good(usize),
+    // A refusal number of document 01.
+    Refused(u32),
+}
+
+pub enum Counted {
+    Components(usize),
+    Malformed,
+}
+
+// A component: its type, and its value as a part of the slice that it was read from.
+pub struct Content {
+    pub typ: u32,
+    pub start: usize,
+    pub end: usize,
+}
+
+// A name; `first` is its refusal for a name that is too long, and the next two are those for a malformed one and for too many components.
+pub fn read_name(name: &[u8], first: u32) -> NameRead
+    requires { ⌜ first ≤ 24 ⌝ }
+    ensures { λ r. ⌜ nameRead (now (name .entry)) r ≡ nameReading first (now (name .entry)) ⌝ }
+{
+    if lvs_spec::MAX_NAME_BYTES < name.len() {
+        return NameRead::Refused(first);
+    }
+    let start = header(name);
+    if start == 0 {
+        return NameRead::Refused(first + 1);
+    }
+    let Counted::Components(n) = count(name, start) else {
+        return NameRead::Refused(first + 1);
+    };
+    if lvs_spec::MAX_COMPONENTS < n {
+        return NameRead::Refused(first + 2);
+    }
+    NameRead::Good(start)
+}
+
+// Where the components of a name start, or 0 where the slice is not one element of type 7.
+fn header(name: &[u8]) -> usize
+    ensures { λ r. ⌜ r ≡ headerOf (now (name .entry)) ⌝ }
+{
+    let place = Place { at: 0 };
+    match place.element(name) {
+        Read::Found {
+            typ,
+            start,
+            end,
+            next: _,
+        } => {
+            if typ != NAME {
+                return 0;
+            }
+            if end != name.len() {
+                return 0;
+            }
+            start
+        }
+        Read::End => 0,
+        Read::Malformed => 0,
+    }
+}
+
+// How many components stand from a place of a name on, up to its end.
+fn count(name: &[u8], from: usize) -> Counted
+    ensures { λ r. ⌜ r ≡ countOf (now (name .entry)) from ⌝ }
+{
+    let mut place = Place { at: from };
+    let mut n: usize = 0;
+    loop {
+        match place.element(name) {
+            Read::Found {
+                typ,
+                start: _,
+                end: _,
+                next,
+            } => {
+                if MAX_COMPONENT_TYPE < typ {
+                    return Counted::Malformed;
+                }
+                n += 1;
+                place = next;
+            }
+            Read::End => {
+                return Counted::Components(n);
+            }
+            Read::Malformed => {
+                return Counted::Malformed;
+            }
+        }
+    }
+}
+
+// The component that a slice begins with; where there is none, type 0 and no bytes.
+pub fn read_component(s: &[u8]) -> Content
+    ensures { λ r. ⌜ ContentOf (now (s .entry)) r ⌝ }
+{
+    let place = Place { at: 0 };
+    match place.element(s) {
+        Read::Found {
+            typ,
+            start,
+            end,
+            next: _,
+        } => Content { typ, start, end },
+        Read::End => Content {
+            typ: 0,
+            start: 0,
+            end: 0,
+        },
+        Read::Malformed => Content {
+            typ: 0,
+            start: 0,
+            end: 0,
+        },
+    }
+}
+
+// Whether the components that two slices begin with are equal.
+pub fn same_component(a: &[u8], b: &[u8]) -> bool
+    ensures { λ r. ⌜ r ≡ same (componentOf (now (a .entry))) (componentOf (now (b .entry))) ⌝ }
+{
+    let x = read_component(a);
+    let y = read_component(b);
+    if x.typ != y.typ {
+        return false;
+    }
+    let p = x.start;
+    let q = x.end;
+    let i = y.start;
+    let j = y.end;
+    tlv::same_bytes(&a[p..q], &b[i..j])
+}
+
+// Whether they have the same type.
+pub fn same_type(a: &[u8], b: &[u8]) -> bool
+    ensures { λ r. ⌜ r ≡ eqb (componentOf (now (a .entry)) .type) (componentOf (now (b .entry)) .type) ⌝ }
+{
+    let x = read_component(a);
+    let y = read_component(b);
+    x.typ == y.typ
+}
+
+// How many bytes a component's value has.
+pub fn value_size(s: &[u8]) -> usize
+    ensures { λ r. ⌜ r ≡ length (componentOf (now (s .entry)) .inside) ⌝ }
+{
+    let x = read_component(s);
+    x.end - x.start
+}
