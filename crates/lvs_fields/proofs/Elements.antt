@@ -1,0 +1,53 @@
+-- One step of a loop over the elements of a container, by what the reader answered at its place: `eachCut` from there on. Assumes nothing.
+use mathlib.Core.Path.{_≡_, refl, sym, ap, _∙_}
+use mathlib.Core.Logic.{_⊎_, inl, inr, ⊎-elim}
+use mathlib.Core.List.{List, [], _∷_, _++_}
+use Prim.Native.Nat.{ℕ, _-_}
+use borrow.Author.Tests.{eq-eqb, ne-eqb}
+use lib.ListN.{take, drop}
+use Rattle.tlv.specs.Element.{Element, Cuts, done, broken, next, cuts}
+use Rattle.tlv.specs.declared.Place.{Place}
+use Rattle.tlv.specs.declared.Read.{Read}
+use Rattle.tlv.specs.declared.Read.the-variants.{End, Malformed}
+use Rattle.tlv.specs.Reading.{readAt}
+use Rattle.tlv.proofs.Cuts.{Step, seen}
+use Rattle.lvs_spec.specs.Model.{eachCut, insides, insideOf, theInside}
+
+-- no element stands at this place: the list ends or is malformed there
+pub record Stop (s : List ℕ) (at : ℕ) : Type 0 where
+  pub cut-is : (cuts (drop at s) ≡ done) ⊎ (cuts (drop at s) ≡ broken)
+
+pub stop-end : (s : List ℕ) (at : ℕ) {r : Read} → r ≡ readAt s at → r ≡ End → Stop s at
+stop-end s at e f = record { cut-is = inl (seen s at e f) }
+
+pub stop-malformed : (s : List ℕ) (at : ℕ) {r : Read} → r ≡ readAt s at → r ≡ Malformed → Stop s at
+stop-malformed s at e f = record { cut-is = inr (seen s at e f) }
+
+-- ---- for any f
+
+module _ {A : Type 0} (f : Element → List A) {s : List ℕ} {at : ℕ} where
+  pub each-found : {t start stop : ℕ} {n : Place} → Step s at t start stop n
+      → eachCut f (cuts (drop at s)) ≡ f (record { type = t; inside = take (stop - start) (drop start s) }) ++ eachCut f (cuts (drop (n .at) s))
+  unfolding eachCut
+  each-found st = rw (st .cut-is)
+
+  pub each-stop : Stop s at → eachCut f (cuts (drop at s)) ≡ []
+  unfolding eachCut
+  each-stop st = ⊎-elim (λ e. rw e) (λ e. rw e) (st .cut-is)
+
+-- ---- the insides of one type
+
+module _ (k : ℕ) {s : List ℕ} {at : ℕ} where
+  pub insides-found : {t start stop : ℕ} {n : Place} → Step s at t start stop n → t ≡ k
+      → insides k (drop at s) ≡ take (stop - start) (drop start s) ∷ insides k (drop (n .at) s)
+  unfolding insides insideOf
+  insides-found st e = each-found (insideOf k) st ∙ rw (eq-eqb k _ (sym e))
+
+  pub insides-other : {t start stop : ℕ} {n : Place} → Step s at t start stop n → (t ≡ k → ⊥)
+      → insides k (drop at s) ≡ insides k (drop (n .at) s)
+  unfolding insides insideOf
+  insides-other st no′ = each-found (insideOf k) st ∙ rw (ne-eqb k _ (λ e. no′ (sym e)))
+
+  pub insides-stop : Stop s at → insides k (drop at s) ≡ []
+  unfolding insides
+  insides-stop st = each-stop (insideOf k) st
