@@ -42,8 +42,8 @@ argumentIn s (Argument.tag t) = bind (bound s t) λ d. some (d .content)
 
 -- the function holds for a component and its arguments
 unfoldable pub holds : Function → Element → List (Option Element) → Bool
-holds eq c args = is (same c) (bind (first args) λ a. a)
-holds eqType c args = is (λ a. eqb (c .type) (a .type)) (bind (first args) λ a. a)
+holds eq c args = is (λ a. same a c) (bind (first args) λ a. a)
+holds eqType c args = is (λ a. eqb (a .type) (c .type)) (bind (first args) λ a. a)
 holds isValidId c args = eqb (length (c .inside)) 6
 holds isValidYear c args = eqb (length (c .inside)) 4
 

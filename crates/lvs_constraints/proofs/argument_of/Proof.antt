@@ -1,0 +1,88 @@
+-- `lvs_constraints::argument_of` meets its contract. The invariant: the first argument from this place on is the first of all. Assumes nothing.
+use mathlib.Core.Path.{_≡_, refl, sym, _∙_}
+use native.Mathlib.Omega.{arith}
+use borrow.Author.Needs.{needs}
+use Prim.Native.Nat.{_-_}
+use lib.ListN.{length, drop}
+use Rattle.tlv.specs.Element.{cuts}
+use Rattle.tlv.proofs.Cuts.{seen}
+use Rattle.lvs_spec.specs.Lists.{firstOr}
+use Rattle.lvs_spec.specs.Model.{Argument, eachCut, argumentFrom, argumentOf}
+use Rattle.lvs_fields.proofs.Elements.{stop-end, stop-malformed}
+use Rattle.lvs_constraints.proofs.Holds.{argument-value, argument-tag, argument-later, argument-none}
+use Rattle.lvs_constraints.proofs.argument_of.Statement.{statement}
+use Rattle.lvs_constraints.proofs.argument_of.Tie as tie
+
+abbrev Inv-loop : tie.InvT-loop
+Inv-loop s place₀ place = firstOr (Argument.tag 0) (eachCut argumentFrom (cuts (drop (place .at) s))) ≡ argumentOf s
+
+abbrev μ-loop : tie.MeasureT-loop
+μ-loop s place₀ place = length s - place .at
+
+loop-holds : tie.Need-loop-holds Inv-loop μ-loop
+unfolding argumentOf
+loop-holds c = refl
+
+element-requires : tie.Need-element-requires Inv-loop μ-loop
+element-requires c κs = search needs
+
+enum-known-typ : tie.Need-enum-known-typ Inv-loop μ-loop
+enum-known-typ c = search needs
+
+returns : tie.Need-returns Inv-loop μ-loop
+returns c = argument-value (c .before .before .before .before .before .loop .inv) (seen _ _ (c .before .before .before .before .element .ensures) (c .before .before .typ .given .1)) (c .if1 .taken)
+
+sub-number-of : tie.Need-sub-number-of Inv-loop μ-loop
+sub-number-of c = seen _ _ (c .before .before .before .before .before .element .ensures) (c .before .before .before .typ .given .1) .order
+
+part-number-of-start : tie.Need-part-number-of-start Inv-loop μ-loop
+part-number-of-start c = seen _ _ (c .before .before .before .before .before .element .ensures) (c .before .before .before .typ .given .1) .order
+
+part-number-of-end : tie.Need-part-number-of-end Inv-loop μ-loop
+part-number-of-end c = seen _ _ (c .before .before .before .before .before .element .ensures) (c .before .before .before .typ .given .1) .within
+
+number-of-requires : tie.Need-number-of-requires Inv-loop μ-loop
+number-of-requires c κs = search needs
+
+returns-2 : tie.Need-returns-2 Inv-loop μ-loop
+returns-2 c = rw (c .number-of .ensures) (argument-tag (c .before .before .before .before .before .before .before .before .loop .inv) (seen _ _ (c .before .before .before .before .before .before .before .element .ensures) (c .before .before .before .before .before .typ .given .1)) (c .before .before .if2 .taken))
+
+loop-less : tie.Need-loop-less Inv-loop μ-loop
+loop-less c = let f = seen _ _ (c .before .before .before .before .before .element .ensures) (c .before .before .before .typ .given .1) in omega arith
+
+loop-again : tie.Need-loop-again Inv-loop μ-loop
+loop-again c = argument-later (c .before .before .before .before .before .before .loop .inv) (seen _ _ (c .before .before .before .before .before .element .ensures) (c .before .before .before .typ .given .1)) (c .before .if1 .left) (c .if2 .left)
+
+enum-told : tie.Need-enum-told Inv-loop μ-loop
+enum-told c = search needs
+
+returns-3 : tie.Need-returns-3 Inv-loop μ-loop
+returns-3 c = argument-none (c .before .before .before .loop .inv) (stop-end _ _ (c .before .before .element .ensures) (c .enum-told .given .1))
+
+enum-told-2 : tie.Need-enum-told-2 Inv-loop μ-loop
+enum-told-2 c = search needs
+
+returns-4 : tie.Need-returns-4 Inv-loop μ-loop
+returns-4 c = argument-none (c .before .before .before .loop .inv) (stop-malformed _ _ (c .before .before .element .ensures) (c .enum-told2 .given .1))
+
+pub argument-of-spec : {M : Type 1} → statement M
+argument-of-spec =
+    tie.close
+    (tie.spec
+    Inv-loop
+    μ-loop
+    loop-holds
+    element-requires
+    enum-known-typ
+    returns
+    sub-number-of
+    part-number-of-start
+    part-number-of-end
+    number-of-requires
+    returns-2
+    loop-less
+    loop-again
+    enum-told
+    returns-3
+    enum-told-2
+    returns-4)

@@ -1,0 +1,54 @@
+-- `lvs_constraints::argument_same` meets its contract. Assumes nothing.
+use borrow.Author.Needs.{needs}
+use mathlib.Core.Path.{sym, subst, _∙_}
+use Rattle.lvs_spec.specs.Walk.{argumentIn}
+use Rattle.lvs_constraints.specs.Arguments.{ArgumentAt}
+use Rattle.lvs_constraints.proofs.Bindings.{bound-argument}
+use Rattle.lvs_constraints.proofs.argument_same.Statement.{statement}
+use Rattle.lvs_constraints.proofs.argument_same.Tie as tie
+
+argument-of-requires : tie.Need-argument-of-requires
+argument-of-requires c κs = search needs
+
+enum-known-start : tie.Need-enum-known-start
+enum-known-start c = search needs
+
+sub-same-component : tie.Need-sub-same-component
+sub-same-component c = subst (ArgumentAt _) (c .before .start .given .1) (c .before .before .before .argument-of .ensures) .order
+
+part-same-component-start : tie.Need-part-same-component-start
+part-same-component-start c = subst (ArgumentAt _) (c .before .start .given .1) (c .before .before .before .argument-of .ensures) .order
+
+part-same-component-end : tie.Need-part-same-component-end
+part-same-component-end c = subst (ArgumentAt _) (c .before .start .given .1) (c .before .before .before .argument-of .ensures) .within
+
+same-component-requires : tie.Need-same-component-requires
+same-component-requires c κs = search needs
+
+enum-known-tag : tie.Need-enum-known-tag
+enum-known-tag c = search needs
+
+bound-same-requires : tie.Need-bound-same-requires
+bound-same-requires c κs = search needs
+
+returns : tie.Need-returns
+unfolding argumentIn
+returns c = c .same-component .ensures ∙ sym (rw (subst (ArgumentAt _) (c .before .before .before .start .given .1) (c .before .before .before .before .before .argument-of .ensures) .is))
+
+returns-2 : tie.Need-returns-2
+returns-2 c = c .bound-same .ensures ∙ bound-argument _ _ _ ∙ sym (rw (subst (ArgumentAt _) (c .before .before .tag .given .1) (c .before .before .before .before .argument-of .ensures)))
+
+pub argument-same-spec : {M : Type 1} → statement M
+argument-same-spec =
+    tie.close
+    (tie.spec
+    argument-of-requires
+    enum-known-start
+    sub-same-component
+    part-same-component-start
+    part-same-component-end
+    same-component-requires
+    enum-known-tag
+    bound-same-requires
+    returns
+    returns-2)

@@ -1,0 +1,321 @@
+// Bindings, and the Constraints of a PatternEdge (document 01, "Names and the walk"), for any bytes.
+//
+// `packet` and `key` are the two names, `slots` the bindings as they stand, and `c` the bytes from the component on that is to pass.
+ghost use mathlib.Core.Path.{_≡_};
+ghost use Prim.Native.Nat.{_+_, _≤_};
+ghost use lib.Dec.{eqb};
+ghost use lib.ListN.{length};
+ghost use Rattle.lvs_spec.specs.Lists.{any, all, is};
+ghost use Rattle.lvs_spec.specs.Limits.{bindingWords};
+ghost use Rattle.lvs_spec.specs.Model.{componentOf, argumentOf, callOf, termFrom, optionOf, constraintOf, patternEdgeOf};
+ghost use Rattle.lvs_spec.specs.Names.{same};
+ghost use Rattle.lvs_spec.specs.Walk.{boundTo, argumentIn, callHolds, termHolds, optionHolds, constraintHolds, crosses};
+ghost use Rattle.lvs_constraints.specs.Bindings.{textFrom, bindingsOf, SlotOf};
+ghost use Rattle.lvs_constraints.specs.Arguments.{ArgumentAt};
+use lvs_fields::Function;
+use tlv::Place;
+use tlv::Read;
+
+const VALUE: u32 = 0x21;
+
+const TAG: u32 = 0x23;
+
+const FN_ID: u32 = 0x27;
+
+const USER_FN_CALL: u32 = 0x31;
+
+const USER_FN_ARG: u32 = 0x33;
+
+const CONSTRAINT_OPTION: u32 = 0x41;
+
+const CONSTRAINT: u32 = 0x43;
+
+// The two words of a Tag.
+pub struct Slot {
+    pub start: u32,
+    pub size: u32,
+}
+
+// What an argument holds: a Value, as a part, or a Tag.
+pub enum ArgumentRead {
+    Value(usize, usize),
+    Tag(u64),
+}
+
+// The two names' bytes from a place on.
+pub fn text_from<'a>(packet: &'a [u8], key: &'a [u8], at: usize) -> &'a [u8]
+    ensures { λ r. ⌜ now r ≡ textFrom (now (packet .entry)) (now (key .entry)) at ⌝ }
+{
+    if at < packet.len() {
+        return &packet[at..];
+    }
+    let k = at - packet.len();
+    if k <= key.len() {
+        return &key[k..];
+    }
+    let n = key.len();
+    &key[n..]
+}
+
+// The words of a Tag; 0 and 0 for one that is out of range.
+pub fn slot_of(slots: &[u32], tag: u64) -> Slot
+    requires { ⌜ length (now slots) ≡ bindingWords ⌝ }
+    ensures { λ r. ⌜ SlotOf (now (slots .entry)) tag r ⌝ }
+{
+    if tag == 0 {
+        return Slot { start: 0, size: 0 };
+    }
+    if lvs_spec::MAX_TAG < tag {
+        return Slot { start: 0, size: 0 };
+    }
+    let i = (tag - 1) as usize * 2;
+    Slot {
+        start: slots[i],
+        size: slots[i + 1],
+    }
+}
+
+// Whether a Tag is bound to an equal component.
+fn bound_same<'a>(packet: &'a [u8], key: &'a [u8], slots: &[u32], tag: u64, c: &[u8]) -> bool
+    requires { ⌜ length (now slots) ≡ bindingWords ⌝ }
+    ensures { λ r. ⌜ r ≡ boundTo (bindingsOf (now (packet .entry)) (now (key .entry)) (now (slots .entry))) tag (componentOf (now (c .entry))) ⌝ }
+{
+    let slot = slot_of(slots, tag);
+    if slot.size == 0 {
+        return false;
+    }
+    lvs_names::same_component(text_from(packet, key, slot.start as usize), c)
+}
+
+// Whether a Tag is bound to a component of the same type.
+fn bound_same_type<'a>(packet: &'a [u8], key: &'a [u8], slots: &[u32], tag: u64, c: &[u8]) -> bool
+    requires { ⌜ length (now slots) ≡ bindingWords ⌝ }
+    ensures { λ r. ⌜ r ≡ is (λ a. eqb (a .type) (componentOf (now (c .entry)) .type))
+        (argumentIn (bindingsOf (now (packet .entry)) (now (key .entry)) (now (slots .entry))) (Rattle.lvs_spec.specs.Model.Argument.tag tag)) ⌝ }
+{
+    let slot = slot_of(slots, tag);
+    if slot.size == 0 {
+        return false;
+    }
+    lvs_names::same_type(text_from(packet, key, slot.start as usize), c)
+}
+
+// What a UserFnArg holds: its first Value or Tag.
+fn argument_of(s: &[u8]) -> ArgumentRead
+    ensures { λ r. ⌜ ArgumentAt (now (s .entry)) r ⌝ }
+{
+    let mut place = Place { at: 0 };
+    loop {
+        match place.element(s) {
+            Read::Found {
+                typ,
+                start,
+                end,
+                next,
+            } => {
+                if typ == VALUE {
+                    return ArgumentRead::Value(start, end);
+                }
+                if typ == TAG {
+                    return ArgumentRead::Tag(lvs_fields::number_of(&s[start..end]));
+                }
+                place = next;
+            }
+            Read::End => {
+                return ArgumentRead::Tag(0);
+            }
+            Read::Malformed => {
+                return ArgumentRead::Tag(0);
+            }
+        }
+    }
+}
+
+// Whether a call's first argument equals the component.
+fn argument_same<'a>(s: &[u8], packet: &'a [u8], key: &'a [u8], slots: &[u32], c: &[u8]) -> bool
+    requires { ⌜ length (now slots) ≡ bindingWords ⌝ }
+    ensures { λ r. ⌜ r ≡ is (λ a. same a (componentOf (now (c .entry))))
+        (argumentIn (bindingsOf (now (packet .entry)) (now (key .entry)) (now (slots .entry))) (argumentOf (now (s .entry)))) ⌝ }
+{
+    match argument_of(s) {
+        ArgumentRead::Value(start, end) => lvs_names::same_component(&s[start..end], c),
+        ArgumentRead::Tag(tag) => bound_same(packet, key, slots, tag, c),
+    }
+}
+
+// Whether it has the component's type.
+fn argument_same_type<'a>(
+    s: &[u8],
+    packet: &'a [u8],
+    key: &'a [u8],
+    slots: &[u32],
+    c: &[u8],
+) -> bool
+    requires { ⌜ length (now slots) ≡ bindingWords ⌝ }
+    ensures { λ r. ⌜ r ≡ is (λ a. eqb (a .type) (componentOf (now (c .entry)) .type))
+        (argumentIn (bindingsOf (now (packet .entry)) (now (key .entry)) (now (slots .entry))) (argumentOf (now (s .entry)))) ⌝ }
+{
+    match argument_of(s) {
+        ArgumentRead::Value(start, end) => lvs_names::same_type(&s[start..end], c),
+        ArgumentRead::Tag(tag) => bound_same_type(packet, key, slots, tag, c),
+    }
+}
+
+// Whether a UserFnCall holds.
+fn call_holds<'a>(s: &[u8], packet: &'a [u8], key: &'a [u8], slots: &[u32], c: &[u8]) -> bool
+    requires { ⌜ length (now slots) ≡ bindingWords ⌝ }
+    ensures { λ r. ⌜ r ≡ callHolds (bindingsOf (now (packet .entry)) (now (key .entry)) (now (slots .entry))) (componentOf (now (c .entry))) (callOf (now (s .entry))) ⌝ }
+{
+    let name = lvs_fields::inside_of(s, FN_ID);
+    let p = name.start;
+    let q = name.end;
+    let argument = lvs_fields::inside_of(s, USER_FN_ARG);
+    let a = argument.start;
+    let b = argument.end;
+    match lvs_fields::function_of(&s[p..q]) {
+        Function::Eq => argument_same(&s[a..b], packet, key, slots, c),
+        Function::EqType => argument_same_type(&s[a..b], packet, key, slots, c),
+        Function::IsValidId => lvs_names::value_size(c) == 6,
+        Function::IsValidYear => lvs_names::value_size(c) == 4,
+        Function::Unknown => false,
+    }
+}
+
+// Whether an element of an option is a term that holds.
+fn term_holds<'a>(
+    s: &[u8],
+    typ: u32,
+    packet: &'a [u8],
+    key: &'a [u8],
+    slots: &[u32],
+    c: &[u8],
+) -> bool
+    requires { ⌜ length (now slots) ≡ bindingWords ⌝ }
+    ensures { λ r. ⌜ r ≡ any (termHolds (bindingsOf (now (packet .entry)) (now (key .entry)) (now (slots .entry))) (componentOf (now (c .entry))))
+        (termFrom (record { type = typ; inside = now (s .entry) })) ⌝ }
+{
+    if typ == VALUE {
+        return lvs_names::same_component(s, c);
+    }
+    if typ == TAG {
+        return bound_same(packet, key, slots, lvs_fields::number_of(s), c);
+    }
+    if typ == USER_FN_CALL {
+        return call_holds(s, packet, key, slots, c);
+    }
+    false
+}
+
+// Whether a ConstraintOption holds.
+fn option_holds<'a>(s: &[u8], packet: &'a [u8], key: &'a [u8], slots: &[u32], c: &[u8]) -> bool
+    requires { ⌜ length (now slots) ≡ bindingWords ⌝ }
+    ensures { λ r. ⌜ r ≡ optionHolds (bindingsOf (now (packet .entry)) (now (key .entry)) (now (slots .entry))) (componentOf (now (c .entry))) (optionOf (now (s .entry))) ⌝ }
+{
+    let mut place = Place { at: 0 };
+    loop {
+        match place.element(s) {
+            Read::Found {
+                typ,
+                start,
+                end,
+                next,
+            } => {
+                if term_holds(&s[start..end], typ, packet, key, slots, c) {
+                    return true;
+                }
+                place = next;
+            }
+            Read::End => {
+                return false;
+            }
+            Read::Malformed => {
+                return false;
+            }
+        }
+    }
+}
+
+// Whether a Constraint holds: one of its options does.
+fn constraint_holds<'a>(s: &[u8], packet: &'a [u8], key: &'a [u8], slots: &[u32], c: &[u8]) -> bool
+    requires { ⌜ length (now slots) ≡ bindingWords ⌝ }
+    ensures { λ r. ⌜ r ≡ constraintHolds (bindingsOf (now (packet .entry)) (now (key .entry)) (now (slots .entry))) (componentOf (now (c .entry))) (constraintOf (now (s .entry))) ⌝ }
+{
+    let mut place = Place { at: 0 };
+    loop {
+        match place.element(s) {
+            Read::Found {
+                typ,
+                start,
+                end,
+                next,
+            } => {
+                place = next;
+                if typ == CONSTRAINT_OPTION {
+                    if option_holds(&s[start..end], packet, key, slots, c) {
+                        return true;
+                    }
+                }
+            }
+            Read::End => {
+                return false;
+            }
+            Read::Malformed => {
+                return false;
+            }
+        }
+    }
+}
+
+// Whether every Constraint of a PatternEdge holds.
+fn constraints_hold<'a>(s: &[u8], packet: &'a [u8], key: &'a [u8], slots: &[u32], c: &[u8]) -> bool
+    requires { ⌜ length (now slots) ≡ bindingWords ⌝ }
+    ensures { λ r. ⌜ r ≡ all (constraintHolds (bindingsOf (now (packet .entry)) (now (key .entry)) (now (slots .entry))) (componentOf (now (c .entry))))
+        (patternEdgeOf (now (s .entry)) .constraints) ⌝ }
+{
+    let mut place = Place { at: 0 };
+    loop {
+        match place.element(s) {
+            Read::Found {
+                typ,
+                start,
+                end,
+                next,
+            } => {
+                place = next;
+                if typ == CONSTRAINT {
+                    if !constraint_holds(&s[start..end], packet, key, slots, c) {
+                        return false;
+                    }
+                }
+            }
+            Read::End => {
+                return true;
+            }
+            Read::Malformed => {
+                return true;
+            }
+        }
+    }
+}
+
+// Whether a PatternEdge lets the component pass: its Tag is unbound or bound to an equal one, and every Constraint holds. `slot` is its Tag's.
+pub fn passes<'a>(
+    s: &[u8],
+    slot: Slot,
+    packet: &'a [u8],
+    key: &'a [u8],
+    slots: &[u32],
+    c: &[u8],
+) -> bool
+    requires { ⌜ length (now slots) ≡ bindingWords ⌝ }
+    requires { ⌜ SlotOf (now slots) (patternEdgeOf (now s) .tag) slot ⌝ }
+    ensures { λ r. ⌜ r ≡ crosses (bindingsOf (now (packet .entry)) (now (key .entry)) (now (slots .entry))) (componentOf (now (c .entry))) (patternEdgeOf (now (s .entry))) ⌝ }
+{
+    if slot.size == 0 {
+        return constraints_hold(s, packet, key, slots, c);
+    }
+    if !lvs_names::same_component(text_from(packet, key, slot.start as usize), c) {
+        return false;
+    }
+    constraints_hold(s, packet, key, slots, c)
+}
