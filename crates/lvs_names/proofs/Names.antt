@@ -22,7 +22,7 @@ use Rattle.lvs_spec.specs.Model.{componentFrom, componentOf}
 use Rattle.lvs_spec.specs.Names.{Component, same, componentsAt, nameFrom, nameOf, NameReading, badName, goodName, rowReading, nameReading}
 use Rattle.lvs_names.specs.Rows.{rowAt, rowFrom}
 use Rattle.lvs_names.specs.Reading.{headerFrom, headerOf, countedFrom, countOf}
-use Rattle.lvs_names.specs.Contents.{ContentOf}
+use Rattle.lvs_names.specs.Contents.{ContentOf, RowStep}
 use Rattle.lvs_names.specs.declared.Content.{Content}
 use Rattle.lvs_names.specs.declared.Counted.{Counted}
 use Rattle.lvs_names.specs.declared.Counted.the-variants.{Components, Malformed}
@@ -129,6 +129,27 @@ module _ {a b : List ℕ} {x y : Content} (X : ContentOf a x) (Y : ContentOf b y
 
 pub size-is : {a : List ℕ} {x : Content} → ContentOf a x → length (componentOf a .inside) ≡ x .end - x .start
 size-is {a} {x} X = rw (X .is) (length-take-le (x .end - x .start) (drop (x .start) a) (simp length-drop (omega (arith, X .within))))
+
+-- ---- the row of components
+
+pub row-done : (name : List ℕ) (at : ℕ) → cuts (drop at name) ≡ done → rowFrom name at ≡ []
+unfolding rowFrom rowAt
+row-done name at e = rw e
+
+pub row-broken : (name : List ℕ) (at : ℕ) → cuts (drop at name) ≡ broken → rowFrom name at ≡ []
+unfolding rowFrom rowAt
+row-broken name at e = rw e
+
+pub row-next : {name : List ℕ} {at t start stop : ℕ} {n : Place} → Bytes name → Step name at t start stop n → RowStep name at stop
+unfolding rowFrom rowAt componentOf componentFrom
+row-next {name} {at} {t} {start} {stop} bytes f =
+    let size = step-size bytes f in
+    let e : at + (stop - at) ≡ stop = omega (arith, f .before, f .order) in
+    record {
+      after = omega (arith, f .before, f .order);
+      within = f .within;
+      is = rw (f .first-is, f .cut-is, f .moved, size, e);
+    }
 
 -- ---- the whole name
 

@@ -1,12 +1,26 @@
--- A component's type and value, as parts of the slice that begins with it.
-use Prim.Native.Nat.{ℕ, _-_, _≤_}
+-- Components as parts of a slice.
+use Prim.Native.Nat.{ℕ, _-_, _≤_, _<_}
 use mathlib.Core.Path.{_≡_}
-use mathlib.Core.List.{List}
+use mathlib.Core.List.{List, [], _∷_}
 use lib.ListN.{length, take, drop}
 use Rattle.lvs_spec.specs.Model.{componentOf}
+use Rattle.lvs_names.specs.Rows.{rowFrom}
 use Rattle.lvs_names.specs.declared.Content.{Content}
+use Rattle.lvs_names.specs.declared.ComponentRead.{ComponentRead}
+use Rattle.lvs_names.specs.declared.ComponentRead.the-variants.{Component, End}
 
+-- the type and value of the component that s begins with
 pub record ContentOf (s : List ℕ) (c : Content) : Type 0 where
   pub order : c .start ≤ c .end
   pub within : c .end ≤ length s
   pub is : componentOf s ≡ record { type = c .typ; inside = take (c .end - c .start) (drop (c .start) s) }
+
+-- the component at a place is what the row goes on with
+pub record RowStep (name : List ℕ) (at stop : ℕ) : Type 0 where
+  pub after : at < stop
+  pub within : stop ≤ length name
+  pub is : rowFrom name at ≡ record { start = at; size = stop - at; content = componentOf (drop at name) } ∷ rowFrom name stop
+
+abbrev pub ComponentAt : List ℕ → ℕ → ComponentRead → Type 0
+ComponentAt name at (Component stop) = RowStep name at stop
+ComponentAt name at End = rowFrom name at ≡ []

@@ -6,7 +6,7 @@ ghost use lib.ListN.{length};
 ghost use Rattle.lvs_spec.specs.Model.{componentOf};
 ghost use Rattle.lvs_spec.specs.Names.{same, nameReading};
 ghost use Rattle.lvs_names.specs.Reading.{nameRead, headerOf, countOf};
-ghost use Rattle.lvs_names.specs.Contents.{ContentOf};
+ghost use Rattle.lvs_names.specs.Contents.{ContentOf, ComponentAt};
 use tlv::Place;
 use tlv::Read;
 
@@ -24,6 +24,12 @@ pub enum NameRead {
 pub enum Counted {
     Components(usize),
     Malformed,
+}
+
+// The component at a place of a name ends at a place, or there is none.
+pub enum ComponentRead {
+    Component(usize),
+    End,
 }
 
 // A component: its type, and its value as a part of the slice that it was read from.
@@ -106,6 +112,23 @@ fn count(name: &[u8], from: usize) -> Counted
                 return Counted::Malformed;
             }
         }
+    }
+}
+
+// The component at a place of a name.
+pub fn component_at(name: &[u8], at: usize) -> ComponentRead
+    ensures { λ r. ⌜ ComponentAt (now (name .entry)) at r ⌝ }
+{
+    let place = Place { at };
+    match place.element(name) {
+        Read::Found {
+            typ: _,
+            start: _,
+            end,
+            next: _,
+        } => ComponentRead::Component(end),
+        Read::End => ComponentRead::End,
+        Read::Malformed => ComponentRead::End,
     }
 }
 

@@ -1,0 +1,3 @@
+pub mod Nodes
+pub mod Hits
+pub mod Crossing
