@@ -1,0 +1,1 @@
+-- One turn of each reading loop: what stands at a place, and what the answer from there on is. Assumes nothing.
