@@ -4,7 +4,6 @@ use super::types::Leaf;
 use tlv::IntegerRead;
 use tlv::Place;
 use tlv::Read;
-
 ghost use mathlib.Core.Path.{_≡_};
 ghost use lib.ListN.{length};
 ghost use Rattle.tlv.specs.Number.{integerSize};

@@ -15,7 +15,6 @@ use types::Known;
 use types::Meaning;
 use types::is_optional;
 use types::meaning_of;
-
 ghost use mathlib.Core.Path.{_≡_};
 ghost use Rattle.tlv.specs.Element.{Element};
 ghost use Rattle.lvs_spec.specs.WellFormed.{insideOk, wellFormedBy, isOtherVersion, otherVersion};

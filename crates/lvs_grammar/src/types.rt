@@ -4,23 +4,37 @@ ghost use Rattle.lvs_spec.specs.Grammar.{meaning, unknown};
 ghost use Rattle.lvs_grammar.specs.Types.{meaningIs, isOptional};
 
 pub const VALUE: u32 = 0x21;
+
 pub const TAG: u32 = 0x23;
 // Also StartId and Destination.
 pub const NODE_ID: u32 = 0x25;
+
 pub const FN_ID: u32 = 0x27;
 // Also RuleName.
 pub const IDENTIFIER: u32 = 0x29;
+
 pub const USER_FN_CALL: u32 = 0x31;
+
 pub const USER_FN_ARG: u32 = 0x33;
+
 pub const CONSTRAINT_OPTION: u32 = 0x41;
+
 pub const CONSTRAINT: u32 = 0x43;
+
 pub const VALUE_EDGE: u32 = 0x51;
+
 pub const PATTERN_EDGE: u32 = 0x53;
+
 pub const SIGN_CONSTRAINT: u32 = 0x55;
+
 pub const PARENT: u32 = 0x57;
+
 pub const VERSION: u32 = 0x61;
+
 pub const NODE: u32 = 0x63;
+
 pub const TAG_SYMBOL: u32 = 0x67;
+
 pub const NAMED_PATTERN_CNT: u32 = 0x69;
 
 // The nine containers: what holds elements.

@@ -1,103 +1,80 @@
-use Prim.Native.Nat.{ℕ, _<_}
-use borrow.Fn.Kinds.{In}
+-- `lvs_grammar::inside_ok` and `well_formed` meet their contracts. The depth falls with each container entered. The loop's invariant: the elements
+-- from the place on, in the state reached, decide. Assumes nothing.
+use Prim.Native.Nat.{ℕ, _+_, _*_, _-_, _<_}
+use mathlib.Core.Path.{_≡_, sym, _∙_}
+use native.Mathlib.Omega.{arith}
+use borrow.Author.Needs.{needs}
+use borrow.Author.Tests.{not-true, not-false}
+use borrow.Fn.Kinds.{In, Out}
 use borrow.Fn.PlainCycle.{Measures, is, falls, and}
-use Rattle.lvs_grammar.proofs.inside_ok.Reads as inside-ok
-use Rattle.lvs_grammar.proofs.inside_ok.Kinds as inside-ok-kinds
-use Rattle.lvs_grammar.proofs.+inside_ok+well_formed.Lts-inside_ok as inside-ok-lts
-use Rattle.lvs_grammar.proofs.well_formed.Reads as well-formed
-use Rattle.lvs_grammar.proofs.well_formed.Kinds as well-formed-kinds
-use Rattle.lvs_grammar.proofs.+inside_ok+well_formed.Lts-well_formed as well-formed-lts
+use lib.ListN.{length}
+use Rattle.tlv.proofs.Cuts.{seen}
+use Rattle.tlv.proofs.Place.element.Reads as element-reads
+use Rattle.lvs_spec.specs.WellFormed.{insideOk, wellFormedBy}
+use Rattle.lvs_grammar.specs.Types.{kindOf}
+use Rattle.lvs_grammar.proofs.Turns.{formedFrom, formed-none, formed-start, formed-end, formed-broken, formed-optional, formed-critical, formed-refused, formed-bad, formed-on}
 use Rattle.lvs_grammar.proofs.leaves.leaf_ok.Reads as leaf-ok-reads
 use Rattle.lvs_grammar.proofs.order.may_end.Reads as may-end-reads
 use Rattle.lvs_grammar.proofs.order.next_state.Reads as next-state-reads
 use Rattle.lvs_grammar.proofs.types.meaning_of.Reads as meaning-of-reads
-use Rattle.tlv.proofs.Place.element.Reads as element-reads
+use Rattle.lvs_grammar.proofs.inside_ok.Reads as inside
+use Rattle.lvs_grammar.proofs.inside_ok.Kinds as inside-kinds
+use Rattle.lvs_grammar.proofs.well_formed.Reads as formed
+use Rattle.lvs_grammar.proofs.well_formed.Kinds as formed-kinds
+use Rattle.lvs_grammar.proofs.+inside_ok+well_formed.Lts-inside_ok as inside-lts
+use Rattle.lvs_grammar.proofs.+inside_ok+well_formed.Lts-well_formed as formed-lts
 use Rattle.lvs_grammar.proofs.+inside_ok+well_formed.{statement}
 use Rattle.lvs_grammar.proofs.+inside_ok+well_formed.Tie.{close}
 
-abbrev μ-inside-ok : Measures 1 inside-ok-kinds.ps ℕ
-μ-inside-ok κs a = ?
+-- a container's inside is read at the depth that is left; twice that, so that `inside_ok` stands between two depths
+abbrev μ-inside : Measures 1 inside-kinds.ps ℕ
+μ-inside κs a = 2 * a .1 .1 .1 .0 + 1
 
-abbrev μ-well-formed : Measures 1 well-formed-kinds.ps ℕ
-μ-well-formed κs a = ?
+abbrev μ-formed : Measures 1 formed-kinds.ps ℕ
+μ-formed κs a = 2 * a .1 .1 .0
 
-abbrev inside-ok-at : ℕ → In 1 inside-ok-kinds.ps
-inside-ok-at t = and 1 inside-ok-kinds.ps (is 1 inside-ok-kinds.ps μ-inside-ok t) inside-ok.Pre
+abbrev inside-at : ℕ → In 1 inside-kinds.ps
+inside-at t = and 1 inside-kinds.ps (is 1 inside-kinds.ps μ-inside t) inside.Pre
 
-abbrev inside-ok-below : ℕ → In 1 inside-ok-kinds.ps
-inside-ok-below t =
-    and 1 inside-ok-kinds.ps (falls 1 inside-ok-kinds.ps _<_ μ-inside-ok t) inside-ok.Pre
+abbrev inside-below : ℕ → In 1 inside-kinds.ps
+inside-below t = and 1 inside-kinds.ps (falls 1 inside-kinds.ps _<_ μ-inside t) inside.Pre
 
-abbrev well-formed-at : ℕ → In 1 well-formed-kinds.ps
-well-formed-at t =
-    and 1 well-formed-kinds.ps (is 1 well-formed-kinds.ps μ-well-formed t) well-formed.Pre
+abbrev formed-at : ℕ → In 1 formed-kinds.ps
+formed-at t = and 1 formed-kinds.ps (is 1 formed-kinds.ps μ-formed t) formed.Pre
 
-abbrev well-formed-below : ℕ → In 1 well-formed-kinds.ps
-well-formed-below t =
-    and 1 well-formed-kinds.ps (falls 1 well-formed-kinds.ps _<_ μ-well-formed t) well-formed.Pre
+abbrev formed-below : ℕ → In 1 formed-kinds.ps
+formed-below t = and 1 formed-kinds.ps (falls 1 formed-kinds.ps _<_ μ-formed t) formed.Pre
 
--- src/lib.rt:132:22
-inside-ok-enum-known-known : (t : ℕ) → inside-ok-lts.Need-enum-known-known (
-  leaf-ok-reads.Asked,
-  leaf-ok-reads.Learnt,
-  well-formed-below t,
-  well-formed.Post,
-) (inside-ok-at t) inside-ok.Post
-inside-ok-enum-known-known t c = ?
+-- ---- inside_ok
 
--- src/lib.rt:132:31
-inside-ok-leaf-ok-requires : (t : ℕ) → inside-ok-lts.Need-leaf-ok-requires (
-  leaf-ok-reads.Asked,
-  leaf-ok-reads.Learnt,
-  well-formed-below t,
-  well-formed.Post,
-) (inside-ok-at t) inside-ok.Post
-inside-ok-leaf-ok-requires t c κs = ?
+-- what is known of the calls, with the measure below t at a call of `well_formed`
+abbrev inside-calls : ℕ → inside-lts.Claims
+inside-calls t = (leaf-ok-reads.Asked, leaf-ok-reads.Learnt, formed-below t, formed.Post)
 
--- src/lib.rt:133:26
-inside-ok-enum-known-known-2 : (t : ℕ) → inside-ok-lts.Need-enum-known-known-2 (
-  leaf-ok-reads.Asked,
-  leaf-ok-reads.Learnt,
-  well-formed-below t,
-  well-formed.Post,
-) (inside-ok-at t) inside-ok.Post
-inside-ok-enum-known-known-2 t c = ?
+abbrev inside-need : (inside-lts.Claims → In 1 inside-kinds.ps → Out 1 inside-kinds.ps inside-kinds.r → Type 0) → ℕ → Type 0
+inside-need N t = N (inside-calls t) (inside-at t) inside.Post
 
--- src/lib.rt:133:36
-inside-ok-well-formed-requires : (t : ℕ) → inside-ok-lts.Need-well-formed-requires (
-  leaf-ok-reads.Asked,
-  leaf-ok-reads.Learnt,
-  well-formed-below t,
-  well-formed.Post,
-) (inside-ok-at t) inside-ok.Post
-inside-ok-well-formed-requires t c κs = ?
+inside-well-formed-requires : (t : ℕ) → inside-need inside-lts.Need-well-formed-requires t
+inside-well-formed-requires t c κs = (omega (arith, c .before .before .before .before .pre .0), tt)
 
--- src/lib.rt:128:1
-inside-ok-returns : (t : ℕ) → inside-ok-lts.Need-returns (
-  leaf-ok-reads.Asked,
-  leaf-ok-reads.Learnt,
-  well-formed-below t,
-  well-formed.Post,
-) (inside-ok-at t) inside-ok.Post
-inside-ok-returns t c = ?
+inside-returns : (t : ℕ) → inside-need inside-lts.Need-returns t
+unfolding insideOk
+inside-returns t c = rw (c .before .before .known .given .1) (c .leaf-ok .ensures)
 
--- src/lib.rt:128:1
-inside-ok-returns-2 : (t : ℕ) → inside-ok-lts.Need-returns-2 (
-  leaf-ok-reads.Asked,
-  leaf-ok-reads.Learnt,
-  well-formed-below t,
-  well-formed.Post,
-) (inside-ok-at t) inside-ok.Post
-inside-ok-returns-2 t c = ?
+inside-returns-2 : (t : ℕ) → inside-need inside-lts.Need-returns-2 t
+unfolding insideOk
+inside-returns-2 t c = rw (c .before .before .known2 .given .1) (c .well-formed .ensures)
 
-abbrev well-formed-Inv-loop : well-formed-lts.InvT-loop
-well-formed-Inv-loop s kind depth below place₀ state₀ place state = ?
+-- ---- well_formed
 
-abbrev well-formed-μ-loop : well-formed-lts.MeasureT-loop
-well-formed-μ-loop s kind depth below place₀ state₀ place state = ?
+abbrev Inv-loop : formed-lts.InvT-loop
+Inv-loop s kind depth below place₀ state₀ place state = wellFormedBy depth (kindOf kind) s ≡ formedFrom below (kindOf kind) state s (place .at)
 
--- src/lib.rt:93:9
-well-formed-returns : (t : ℕ) → well-formed-lts.Need-returns (
+abbrev μ-loop : formed-lts.MeasureT-loop
+μ-loop s kind depth below place₀ state₀ place state = length s - place .at
+
+abbrev formed-calls : ℕ → formed-lts.Claims
+formed-calls t = (
   element-reads.Asked,
   element-reads.Learnt,
   may-end-reads.Asked,
@@ -106,471 +83,101 @@ well-formed-returns : (t : ℕ) → well-formed-lts.Need-returns (
   meaning-of-reads.Learnt,
   next-state-reads.Asked,
   next-state-reads.Learnt,
-  inside-ok-below t,
-  inside-ok.Post,
-) (well-formed-at t) well-formed.Post well-formed-Inv-loop well-formed-μ-loop
-well-formed-returns t c = ?
+  inside-below t,
+  inside.Post,
+)
 
--- src/lib.rt:95:17
-well-formed-sub-below : (t : ℕ) → well-formed-lts.Need-sub-below (
-  element-reads.Asked,
-  element-reads.Learnt,
-  may-end-reads.Asked,
-  may-end-reads.Learnt,
-  meaning-of-reads.Asked,
-  meaning-of-reads.Learnt,
-  next-state-reads.Asked,
-  next-state-reads.Learnt,
-  inside-ok-below t,
-  inside-ok.Post,
-) (well-formed-at t) well-formed.Post well-formed-Inv-loop well-formed-μ-loop
-well-formed-sub-below t c = ?
+abbrev formed-need : (formed-lts.Claims → In 1 formed-kinds.ps → Out 1 formed-kinds.ps formed-kinds.r → formed-lts.InvT-loop → formed-lts.MeasureT-loop → Type 0) → ℕ → Type 0
+formed-need N t = N (formed-calls t) (formed-at t) formed.Post Inv-loop μ-loop
 
--- src/lib.rt:98:5
-well-formed-loop-holds : (t : ℕ) → well-formed-lts.Need-loop-holds (
-  element-reads.Asked,
-  element-reads.Learnt,
-  may-end-reads.Asked,
-  may-end-reads.Learnt,
-  meaning-of-reads.Asked,
-  meaning-of-reads.Learnt,
-  next-state-reads.Asked,
-  next-state-reads.Learnt,
-  inside-ok-below t,
-  inside-ok.Post,
-) (well-formed-at t) well-formed.Post well-formed-Inv-loop well-formed-μ-loop
-well-formed-loop-holds t c = ?
+formed-returns : (t : ℕ) → formed-need formed-lts.Need-returns t
+formed-returns t c = formed-none _ _ _ (c .if1 .taken)
 
--- src/lib.rt:99:15
-well-formed-element-requires : (t : ℕ) → well-formed-lts.Need-element-requires (
-  element-reads.Asked,
-  element-reads.Learnt,
-  may-end-reads.Asked,
-  may-end-reads.Learnt,
-  meaning-of-reads.Asked,
-  meaning-of-reads.Learnt,
-  next-state-reads.Asked,
-  next-state-reads.Learnt,
-  inside-ok-below t,
-  inside-ok.Post,
-) (well-formed-at t) well-formed.Post well-formed-Inv-loop well-formed-μ-loop
-well-formed-element-requires t c κs = ?
+formed-sub-below : (t : ℕ) → formed-need formed-lts.Need-sub-below t
+formed-sub-below t c = omega arith
 
--- src/lib.rt:100:26
-well-formed-enum-told : (t : ℕ) → well-formed-lts.Need-enum-told (
-  element-reads.Asked,
-  element-reads.Learnt,
-  may-end-reads.Asked,
-  may-end-reads.Learnt,
-  meaning-of-reads.Asked,
-  meaning-of-reads.Learnt,
-  next-state-reads.Asked,
-  next-state-reads.Learnt,
-  inside-ok-below t,
-  inside-ok.Post,
-) (well-formed-at t) well-formed.Post well-formed-Inv-loop well-formed-μ-loop
-well-formed-enum-told t c = ?
+formed-loop-holds : (t : ℕ) → formed-need formed-lts.Need-loop-holds t
+formed-loop-holds t c = formed-start _ _ _ (c .if1 .left)
 
--- src/lib.rt:100:26
-well-formed-may-end-requires : (t : ℕ) → well-formed-lts.Need-may-end-requires (
-  element-reads.Asked,
-  element-reads.Learnt,
-  may-end-reads.Asked,
-  may-end-reads.Learnt,
-  meaning-of-reads.Asked,
-  meaning-of-reads.Learnt,
-  next-state-reads.Asked,
-  next-state-reads.Learnt,
-  inside-ok-below t,
-  inside-ok.Post,
-) (well-formed-at t) well-formed.Post well-formed-Inv-loop well-formed-μ-loop
-well-formed-may-end-requires t c κs = ?
+formed-returns-2 : (t : ℕ) → formed-need formed-lts.Need-returns-2 t
+formed-returns-2 t c = sym (c .before .before .before .before .loop .inv ∙ formed-end _ _ _ _ _ (c .before .before .before .element .ensures) (c .before .enum-told .given .1) (c .may-end .ensures))
 
--- src/lib.rt:100:26
-well-formed-returns-2 : (t : ℕ) → well-formed-lts.Need-returns-2 (
-  element-reads.Asked,
-  element-reads.Learnt,
-  may-end-reads.Asked,
-  may-end-reads.Learnt,
-  meaning-of-reads.Asked,
-  meaning-of-reads.Learnt,
-  next-state-reads.Asked,
-  next-state-reads.Learnt,
-  inside-ok-below t,
-  inside-ok.Post,
-) (well-formed-at t) well-formed.Post well-formed-Inv-loop well-formed-μ-loop
-well-formed-returns-2 t c = ?
+formed-returns-3 : (t : ℕ) → formed-need formed-lts.Need-returns-3 t
+formed-returns-3 t c = sym (c .before .before .before .loop .inv ∙ formed-broken _ _ _ _ _ (c .before .before .element .ensures) (c .enum-told2 .given .1))
 
--- src/lib.rt:101:32
-well-formed-enum-told-2 : (t : ℕ) → well-formed-lts.Need-enum-told-2 (
-  element-reads.Asked,
-  element-reads.Learnt,
-  may-end-reads.Asked,
-  may-end-reads.Learnt,
-  meaning-of-reads.Asked,
-  meaning-of-reads.Learnt,
-  next-state-reads.Asked,
-  next-state-reads.Learnt,
-  inside-ok-below t,
-  inside-ok.Post,
-) (well-formed-at t) well-formed.Post well-formed-Inv-loop well-formed-μ-loop
-well-formed-enum-told-2 t c = ?
+formed-loop-less : (t : ℕ) → formed-need formed-lts.Need-loop-less t
+formed-loop-less t c = omega (arith, seen _ _ (c .before .before .before .before .before .before .element .ensures) (c .before .before .before .before .typ .given .1))
 
--- src/lib.rt:101:32
-well-formed-returns-3 : (t : ℕ) → well-formed-lts.Need-returns-3 (
-  element-reads.Asked,
-  element-reads.Learnt,
-  may-end-reads.Asked,
-  may-end-reads.Learnt,
-  meaning-of-reads.Asked,
-  meaning-of-reads.Learnt,
-  next-state-reads.Asked,
-  next-state-reads.Learnt,
-  inside-ok-below t,
-  inside-ok.Post,
-) (well-formed-at t) well-formed.Post well-formed-Inv-loop well-formed-μ-loop
-well-formed-returns-3 t c = ?
+formed-loop-again : (t : ℕ) → formed-need formed-lts.Need-loop-again t
+formed-loop-again t c = c .before .before .before .before .before .before .before .loop .inv ∙ formed-optional _ _ _ _ _ (c .before .before .before .before .before .before .element .ensures) (c .before .before .before .before .typ .given .1) _ (c .before .before .meaning-of .ensures) (c .enum-told3 .given .1)
 
--- src/lib.rt:103:17
-well-formed-enum-known-typ : (t : ℕ) → well-formed-lts.Need-enum-known-typ (
-  element-reads.Asked,
-  element-reads.Learnt,
-  may-end-reads.Asked,
-  may-end-reads.Learnt,
-  meaning-of-reads.Asked,
-  meaning-of-reads.Learnt,
-  next-state-reads.Asked,
-  next-state-reads.Learnt,
-  inside-ok-below t,
-  inside-ok.Post,
-) (well-formed-at t) well-formed.Post well-formed-Inv-loop well-formed-μ-loop
-well-formed-enum-known-typ t c = ?
+formed-returns-4 : (t : ℕ) → formed-need formed-lts.Need-returns-4 t
+formed-returns-4 t c = sym (c .before .before .before .before .before .before .before .loop .inv ∙ formed-critical _ _ _ _ _ (c .before .before .before .before .before .before .element .ensures) (c .before .before .before .before .typ .given .1) _ (c .before .before .meaning-of .ensures) (c .enum-told4 .given .1))
 
--- src/lib.rt:109:23
-well-formed-meaning-of-requires : (t : ℕ) → well-formed-lts.Need-meaning-of-requires (
-  element-reads.Asked,
-  element-reads.Learnt,
-  may-end-reads.Asked,
-  may-end-reads.Learnt,
-  meaning-of-reads.Asked,
-  meaning-of-reads.Learnt,
-  next-state-reads.Asked,
-  next-state-reads.Learnt,
-  inside-ok-below t,
-  inside-ok.Post,
-) (well-formed-at t) well-formed.Post well-formed-Inv-loop well-formed-μ-loop
-well-formed-meaning-of-requires t c κs = ?
+formed-returns-5 : (t : ℕ) → formed-need formed-lts.Need-returns-5 t
+formed-returns-5 t c = sym (c .before .before .before .before .before .before .before .before .before .before .before .loop .inv ∙ formed-refused _ _ _ _ _ (c .before .before .before .before .before .before .before .before .before .before .element .ensures) (c .before .before .before .before .before .before .before .before .typ .given .1) _ (c .before .before .before .before .before .before .meaning-of .ensures) (c .before .before .before .before .known .given .1) _ (c .before .before .next-state .ensures) (c .enum-told5 .given .1))
 
-well-formed-enum-told-3 : (t : ℕ) → well-formed-lts.Need-enum-told-3 (
-  element-reads.Asked,
-  element-reads.Learnt,
-  may-end-reads.Asked,
-  may-end-reads.Learnt,
-  meaning-of-reads.Asked,
-  meaning-of-reads.Learnt,
-  next-state-reads.Asked,
-  next-state-reads.Learnt,
-  inside-ok-below t,
-  inside-ok.Post,
-) (well-formed-at t) well-formed.Post well-formed-Inv-loop well-formed-μ-loop
-well-formed-enum-told-3 t c = ?
+formed-sub-inside-ok : (t : ℕ) → formed-need formed-lts.Need-sub-inside-ok t
+formed-sub-inside-ok t c = omega (arith, seen _ _ (c .before .before .before .before .before .before .before .before .before .before .before .element .ensures) (c .before .before .before .before .before .before .before .before .before .typ .given .1))
 
--- src/lib.rt:98:5
-well-formed-loop-less : (t : ℕ) → well-formed-lts.Need-loop-less (
-  element-reads.Asked,
-  element-reads.Learnt,
-  may-end-reads.Asked,
-  may-end-reads.Learnt,
-  meaning-of-reads.Asked,
-  meaning-of-reads.Learnt,
-  next-state-reads.Asked,
-  next-state-reads.Learnt,
-  inside-ok-below t,
-  inside-ok.Post,
-) (well-formed-at t) well-formed.Post well-formed-Inv-loop well-formed-μ-loop
-well-formed-loop-less t c = ?
+formed-part-inside-ok-start : (t : ℕ) → formed-need formed-lts.Need-part-inside-ok-start t
+formed-part-inside-ok-start t c = omega (arith, seen _ _ (c .before .before .before .before .before .before .before .before .before .before .before .element .ensures) (c .before .before .before .before .before .before .before .before .before .typ .given .1))
 
--- src/lib.rt:98:5
-well-formed-loop-again : (t : ℕ) → well-formed-lts.Need-loop-again (
-  element-reads.Asked,
-  element-reads.Learnt,
-  may-end-reads.Asked,
-  may-end-reads.Learnt,
-  meaning-of-reads.Asked,
-  meaning-of-reads.Learnt,
-  next-state-reads.Asked,
-  next-state-reads.Learnt,
-  inside-ok-below t,
-  inside-ok.Post,
-) (well-formed-at t) well-formed.Post well-formed-Inv-loop well-formed-μ-loop
-well-formed-loop-again t c = ?
+formed-part-inside-ok-end : (t : ℕ) → formed-need formed-lts.Need-part-inside-ok-end t
+formed-part-inside-ok-end t c = omega (arith, seen _ _ (c .before .before .before .before .before .before .before .before .before .before .before .element .ensures) (c .before .before .before .before .before .before .before .before .before .typ .given .1))
 
--- src/lib.rt:111:42
-well-formed-enum-told-4 : (t : ℕ) → well-formed-lts.Need-enum-told-4 (
-  element-reads.Asked,
-  element-reads.Learnt,
-  may-end-reads.Asked,
-  may-end-reads.Learnt,
-  meaning-of-reads.Asked,
-  meaning-of-reads.Learnt,
-  next-state-reads.Asked,
-  next-state-reads.Learnt,
-  inside-ok-below t,
-  inside-ok.Post,
-) (well-formed-at t) well-formed.Post well-formed-Inv-loop well-formed-μ-loop
-well-formed-enum-told-4 t c = ?
+formed-inside-ok-requires : (t : ℕ) → formed-need formed-lts.Need-inside-ok-requires t
+formed-inside-ok-requires t c κs = (omega (arith, c .before .before .before .before .before .before .before .before .before .before .before .before .before .before .before .before .pre .0, c .before .before .before .before .before .before .before .before .before .before .before .before .before .before .if1 .left), tt)
 
--- src/lib.rt:111:42
-well-formed-returns-4 : (t : ℕ) → well-formed-lts.Need-returns-4 (
-  element-reads.Asked,
-  element-reads.Learnt,
-  may-end-reads.Asked,
-  may-end-reads.Learnt,
-  meaning-of-reads.Asked,
-  meaning-of-reads.Learnt,
-  next-state-reads.Asked,
-  next-state-reads.Learnt,
-  inside-ok-below t,
-  inside-ok.Post,
-) (well-formed-at t) well-formed.Post well-formed-Inv-loop well-formed-μ-loop
-well-formed-returns-4 t c = ?
+formed-returns-6 : (t : ℕ) → formed-need formed-lts.Need-returns-6 t
+formed-returns-6 t c = sym (c .before .before .before .before .before .before .before .before .before .before .before .before .before .before .before .loop .inv ∙ formed-bad _ _ _ _ _ (c .before .before .before .before .before .before .before .before .before .before .before .before .before .before .element .ensures) (c .before .before .before .before .before .before .before .before .before .before .before .before .typ .given .1) _ (c .before .before .before .before .before .before .before .before .before .before .meaning-of .ensures) (c .before .before .before .before .before .before .before .before .known .given .1) _ (c .before .before .before .before .before .before .next-state .ensures) (c .before .before .before .before .q .given .1) (c .before .inside-ok .ensures) (not-true _ (c .if2 .taken)))
 
--- src/lib.rt:112:36
-well-formed-enum-known-known : (t : ℕ) → well-formed-lts.Need-enum-known-known (
-  element-reads.Asked,
-  element-reads.Learnt,
-  may-end-reads.Asked,
-  may-end-reads.Learnt,
-  meaning-of-reads.Asked,
-  meaning-of-reads.Learnt,
-  next-state-reads.Asked,
-  next-state-reads.Learnt,
-  inside-ok-below t,
-  inside-ok.Post,
-) (well-formed-at t) well-formed.Post well-formed-Inv-loop well-formed-μ-loop
-well-formed-enum-known-known t c = ?
+formed-loop-less-2 : (t : ℕ) → formed-need formed-lts.Need-loop-less-2 t
+formed-loop-less-2 t c = omega (arith, seen _ _ (c .before .before .before .before .before .before .before .before .before .before .before .before .before .before .element .ensures) (c .before .before .before .before .before .before .before .before .before .before .before .before .typ .given .1))
 
--- src/lib.rt:113:46
-well-formed-next-state-requires : (t : ℕ) → well-formed-lts.Need-next-state-requires (
-  element-reads.Asked,
-  element-reads.Learnt,
-  may-end-reads.Asked,
-  may-end-reads.Learnt,
-  meaning-of-reads.Asked,
-  meaning-of-reads.Learnt,
-  next-state-reads.Asked,
-  next-state-reads.Learnt,
-  inside-ok-below t,
-  inside-ok.Post,
-) (well-formed-at t) well-formed.Post well-formed-Inv-loop well-formed-μ-loop
-well-formed-next-state-requires t c κs = ?
-
--- src/lib.rt:113:41
-well-formed-enum-known-q : (t : ℕ) → well-formed-lts.Need-enum-known-q (
-  element-reads.Asked,
-  element-reads.Learnt,
-  may-end-reads.Asked,
-  may-end-reads.Learnt,
-  meaning-of-reads.Asked,
-  meaning-of-reads.Learnt,
-  next-state-reads.Asked,
-  next-state-reads.Learnt,
-  inside-ok-below t,
-  inside-ok.Post,
-) (well-formed-at t) well-formed.Post well-formed-Inv-loop well-formed-μ-loop
-well-formed-enum-known-q t c = ?
-
--- src/lib.rt:114:29
-well-formed-enum-told-5 : (t : ℕ) → well-formed-lts.Need-enum-told-5 (
-  element-reads.Asked,
-  element-reads.Learnt,
-  may-end-reads.Asked,
-  may-end-reads.Learnt,
-  meaning-of-reads.Asked,
-  meaning-of-reads.Learnt,
-  next-state-reads.Asked,
-  next-state-reads.Learnt,
-  inside-ok-below t,
-  inside-ok.Post,
-) (well-formed-at t) well-formed.Post well-formed-Inv-loop well-formed-μ-loop
-well-formed-enum-told-5 t c = ?
-
--- src/lib.rt:114:29
-well-formed-returns-5 : (t : ℕ) → well-formed-lts.Need-returns-5 (
-  element-reads.Asked,
-  element-reads.Learnt,
-  may-end-reads.Asked,
-  may-end-reads.Learnt,
-  meaning-of-reads.Asked,
-  meaning-of-reads.Learnt,
-  next-state-reads.Asked,
-  next-state-reads.Learnt,
-  inside-ok-below t,
-  inside-ok.Post,
-) (well-formed-at t) well-formed.Post well-formed-Inv-loop well-formed-μ-loop
-well-formed-returns-5 t c = ?
-
--- src/lib.rt:116:39
-well-formed-sub-inside-ok : (t : ℕ) → well-formed-lts.Need-sub-inside-ok (
-  element-reads.Asked,
-  element-reads.Learnt,
-  may-end-reads.Asked,
-  may-end-reads.Learnt,
-  meaning-of-reads.Asked,
-  meaning-of-reads.Learnt,
-  next-state-reads.Asked,
-  next-state-reads.Learnt,
-  inside-ok-below t,
-  inside-ok.Post,
-) (well-formed-at t) well-formed.Post well-formed-Inv-loop well-formed-μ-loop
-well-formed-sub-inside-ok t c = ?
-
--- src/lib.rt:116:39
-well-formed-part-inside-ok-start : (t : ℕ) → well-formed-lts.Need-part-inside-ok-start (
-  element-reads.Asked,
-  element-reads.Learnt,
-  may-end-reads.Asked,
-  may-end-reads.Learnt,
-  meaning-of-reads.Asked,
-  meaning-of-reads.Learnt,
-  next-state-reads.Asked,
-  next-state-reads.Learnt,
-  inside-ok-below t,
-  inside-ok.Post,
-) (well-formed-at t) well-formed.Post well-formed-Inv-loop well-formed-μ-loop
-well-formed-part-inside-ok-start t c = ?
-
--- src/lib.rt:116:39
-well-formed-part-inside-ok-end : (t : ℕ) → well-formed-lts.Need-part-inside-ok-end (
-  element-reads.Asked,
-  element-reads.Learnt,
-  may-end-reads.Asked,
-  may-end-reads.Learnt,
-  meaning-of-reads.Asked,
-  meaning-of-reads.Learnt,
-  next-state-reads.Asked,
-  next-state-reads.Learnt,
-  inside-ok-below t,
-  inside-ok.Post,
-) (well-formed-at t) well-formed.Post well-formed-Inv-loop well-formed-μ-loop
-well-formed-part-inside-ok-end t c = ?
-
--- src/lib.rt:116:29
-well-formed-inside-ok-requires : (t : ℕ) → well-formed-lts.Need-inside-ok-requires (
-  element-reads.Asked,
-  element-reads.Learnt,
-  may-end-reads.Asked,
-  may-end-reads.Learnt,
-  meaning-of-reads.Asked,
-  meaning-of-reads.Learnt,
-  next-state-reads.Asked,
-  next-state-reads.Learnt,
-  inside-ok-below t,
-  inside-ok.Post,
-) (well-formed-at t) well-formed.Post well-formed-Inv-loop well-formed-μ-loop
-well-formed-inside-ok-requires t c κs = ?
-
--- src/lib.rt:117:29
-well-formed-returns-6 : (t : ℕ) → well-formed-lts.Need-returns-6 (
-  element-reads.Asked,
-  element-reads.Learnt,
-  may-end-reads.Asked,
-  may-end-reads.Learnt,
-  meaning-of-reads.Asked,
-  meaning-of-reads.Learnt,
-  next-state-reads.Asked,
-  next-state-reads.Learnt,
-  inside-ok-below t,
-  inside-ok.Post,
-) (well-formed-at t) well-formed.Post well-formed-Inv-loop well-formed-μ-loop
-well-formed-returns-6 t c = ?
-
--- src/lib.rt:98:5
-well-formed-loop-less-2 : (t : ℕ) → well-formed-lts.Need-loop-less-2 (
-  element-reads.Asked,
-  element-reads.Learnt,
-  may-end-reads.Asked,
-  may-end-reads.Learnt,
-  meaning-of-reads.Asked,
-  meaning-of-reads.Learnt,
-  next-state-reads.Asked,
-  next-state-reads.Learnt,
-  inside-ok-below t,
-  inside-ok.Post,
-) (well-formed-at t) well-formed.Post well-formed-Inv-loop well-formed-μ-loop
-well-formed-loop-less-2 t c = ?
-
--- src/lib.rt:98:5
-well-formed-loop-again-2 : (t : ℕ) → well-formed-lts.Need-loop-again-2 (
-  element-reads.Asked,
-  element-reads.Learnt,
-  may-end-reads.Asked,
-  may-end-reads.Learnt,
-  meaning-of-reads.Asked,
-  meaning-of-reads.Learnt,
-  next-state-reads.Asked,
-  next-state-reads.Learnt,
-  inside-ok-below t,
-  inside-ok.Post,
-) (well-formed-at t) well-formed.Post well-formed-Inv-loop well-formed-μ-loop
-well-formed-loop-again-2 t c = ?
+formed-loop-again-2 : (t : ℕ) → formed-need formed-lts.Need-loop-again-2 t
+formed-loop-again-2 t c = c .before .before .before .before .before .before .before .before .before .before .before .before .before .before .before .loop .inv ∙ formed-on _ _ _ _ _ (c .before .before .before .before .before .before .before .before .before .before .before .before .before .before .element .ensures) (c .before .before .before .before .before .before .before .before .before .before .before .before .typ .given .1) _ (c .before .before .before .before .before .before .before .before .before .before .meaning-of .ensures) (c .before .before .before .before .before .before .before .before .known .given .1) _ (c .before .before .before .before .before .before .next-state .ensures) (c .before .before .before .before .q .given .1) (c .before .inside-ok .ensures) (not-false _ (c .if2 .left))
 
 pub +inside-ok+well-formed-spec : {M : Type 1} → statement M
-+inside-ok+well-formed-spec = close μ-inside-ok μ-well-formed (λ t. inside-ok-lts.spec (
-  leaf-ok-reads.Asked,
-  leaf-ok-reads.Learnt,
-  well-formed-below t,
-  well-formed.Post,
-)
-    (inside-ok-at t)
-    inside-ok.Post
-    (inside-ok-enum-known-known t)
-    (inside-ok-leaf-ok-requires t)
-    (inside-ok-enum-known-known-2 t)
-    (inside-ok-well-formed-requires t)
-    (inside-ok-returns t)
-    (inside-ok-returns-2 t))
-    λ t. well-formed-lts.spec (
-      element-reads.Asked,
-      element-reads.Learnt,
-      may-end-reads.Asked,
-      may-end-reads.Learnt,
-      meaning-of-reads.Asked,
-      meaning-of-reads.Learnt,
-      next-state-reads.Asked,
-      next-state-reads.Learnt,
-      inside-ok-below t,
-      inside-ok.Post,
-    )
-    (well-formed-at t)
-    well-formed.Post
-    well-formed-Inv-loop
-    well-formed-μ-loop
-    (well-formed-returns t)
-    (well-formed-sub-below t)
-    (well-formed-loop-holds t)
-    (well-formed-element-requires t)
-    (well-formed-enum-told t)
-    (well-formed-may-end-requires t)
-    (well-formed-returns-2 t)
-    (well-formed-enum-told-2 t)
-    (well-formed-returns-3 t)
-    (well-formed-enum-known-typ t)
-    (well-formed-meaning-of-requires t)
-    (well-formed-enum-told-3 t)
-    (well-formed-loop-less t)
-    (well-formed-loop-again t)
-    (well-formed-enum-told-4 t)
-    (well-formed-returns-4 t)
-    (well-formed-enum-known-known t)
-    (well-formed-next-state-requires t)
-    (well-formed-enum-known-q t)
-    (well-formed-enum-told-5 t)
-    (well-formed-returns-5 t)
-    (well-formed-sub-inside-ok t)
-    (well-formed-part-inside-ok-start t)
-    (well-formed-part-inside-ok-end t)
-    (well-formed-inside-ok-requires t)
-    (well-formed-returns-6 t)
-    (well-formed-loop-less-2 t)
-    (well-formed-loop-again-2 t)
++inside-ok+well-formed-spec = close μ-inside μ-formed (λ t. inside-lts.spec (inside-calls t)
+    (inside-at t)
+    inside.Post
+    (λ c. search needs)
+    (λ c κs. search needs)
+    (λ c. search needs)
+    (inside-well-formed-requires t)
+    (inside-returns t)
+    (inside-returns-2 t))
+    λ t. formed-lts.spec (formed-calls t)
+    (formed-at t)
+    formed.Post
+    Inv-loop
+    μ-loop
+    (formed-returns t)
+    (formed-sub-below t)
+    (formed-loop-holds t)
+    (λ c κs. search needs)
+    (λ c. search needs)
+    (λ c κs. search needs)
+    (formed-returns-2 t)
+    (λ c. search needs)
+    (formed-returns-3 t)
+    (λ c. search needs)
+    (λ c κs. search needs)
+    (λ c. search needs)
+    (formed-loop-less t)
+    (formed-loop-again t)
+    (λ c. search needs)
+    (formed-returns-4 t)
+    (λ c. search needs)
+    (λ c κs. search needs)
+    (λ c. search needs)
+    (λ c. search needs)
+    (formed-returns-5 t)
+    (formed-sub-inside-ok t)
+    (formed-part-inside-ok-start t)
+    (formed-part-inside-ok-end t)
+    (formed-inside-ok-requires t)
+    (formed-returns-6 t)
+    (formed-loop-less-2 t)
+    (formed-loop-again-2 t)

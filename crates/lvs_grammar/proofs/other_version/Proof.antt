@@ -1,76 +1,66 @@
+-- `lvs_grammar::other_version` meets its contract. The loop's invariant: the elements from the place on decide. Assumes nothing.
+use borrow.Author.Needs.{needs}
+use Prim.Native.Nat.{_-_}
+use mathlib.Core.Path.{_≡_, sym, _∙_}
+use native.Mathlib.Omega.{arith}
+use borrow.Author.Tests.{not-true, not-false}
+use lib.ListN.{length}
+use Rattle.tlv.proofs.Cuts.{seen}
+use Rattle.lvs_spec.specs.WellFormed.{otherVersion}
+use Rattle.lvs_grammar.proofs.Turns.{otherFrom, other-start, other-end, other-broken, other-skips, other-first}
 use Rattle.lvs_grammar.proofs.other_version.Statement.{statement}
 use Rattle.lvs_grammar.proofs.other_version.Tie as tie
-use Rattle.lvs_grammar.proofs.other_version.Reads as reads
-use Rattle.lvs_grammar.proofs.other_version.Lts as lts
-use Rattle.lvs_grammar.proofs.is_other_version.Reads as is-other-version-reads
-use Rattle.lvs_grammar.proofs.types.is_optional.Reads as is-optional-reads
-use Rattle.tlv.proofs.Place.element.Reads as element-reads
 
 abbrev Inv-loop : tie.InvT-loop
-Inv-loop model place₀ place = ?
+Inv-loop model place₀ place = otherVersion model ≡ otherFrom model (place .at)
 
 abbrev μ-loop : tie.MeasureT-loop
-μ-loop model place₀ place = ?
+μ-loop model place₀ place = length model - place .at
 
--- src/lib.rt:57:5
 loop-holds : tie.Need-loop-holds Inv-loop μ-loop
-loop-holds c = ?
+loop-holds c = other-start _
 
--- src/lib.rt:58:15
 element-requires : tie.Need-element-requires Inv-loop μ-loop
-element-requires c κs = ?
+element-requires c κs = search needs
 
--- src/lib.rt:59:26
 enum-told : tie.Need-enum-told Inv-loop μ-loop
-enum-told c = ?
+enum-told c = search needs
 
--- src/lib.rt:59:26
 returns : tie.Need-returns Inv-loop μ-loop
-returns c = ?
+returns c = sym (c .before .before .before .loop .inv ∙ other-end _ _ (c .before .before .element .ensures) (c .enum-told .given .1))
 
--- src/lib.rt:60:32
 enum-told-2 : tie.Need-enum-told-2 Inv-loop μ-loop
-enum-told-2 c = ?
+enum-told-2 c = search needs
 
--- src/lib.rt:60:32
 returns-2 : tie.Need-returns-2 Inv-loop μ-loop
-returns-2 c = ?
+returns-2 c = sym (c .before .before .before .loop .inv ∙ other-broken _ _ (c .before .before .element .ensures) (c .enum-told2 .given .1))
 
--- src/lib.rt:62:17
 enum-known-typ : tie.Need-enum-known-typ Inv-loop μ-loop
-enum-known-typ c = ?
+enum-known-typ c = search needs
 
--- src/lib.rt:68:21
 is-optional-requires : tie.Need-is-optional-requires Inv-loop μ-loop
-is-optional-requires c κs = ?
+is-optional-requires c κs = search needs
 
--- src/lib.rt:69:50
 sub-is-other-version : tie.Need-sub-is-other-version Inv-loop μ-loop
-sub-is-other-version c = ?
+sub-is-other-version c = omega (arith, seen _ _ (c .before .before .before .before .before .element .ensures) (c .before .before .before .typ .given .1))
 
--- src/lib.rt:69:50
 part-is-other-version-start : tie.Need-part-is-other-version-start Inv-loop μ-loop
-part-is-other-version-start c = ?
+part-is-other-version-start c = omega (arith, seen _ _ (c .before .before .before .before .before .element .ensures) (c .before .before .before .typ .given .1))
 
--- src/lib.rt:69:50
 part-is-other-version-end : tie.Need-part-is-other-version-end Inv-loop μ-loop
-part-is-other-version-end c = ?
+part-is-other-version-end c = omega (arith, seen _ _ (c .before .before .before .before .before .element .ensures) (c .before .before .before .typ .given .1))
 
--- src/lib.rt:69:21
 is-other-version-requires : tie.Need-is-other-version-requires Inv-loop μ-loop
-is-other-version-requires c κs = ?
+is-other-version-requires c κs = search needs
 
--- src/lib.rt:69:21
 returns-3 : tie.Need-returns-3 Inv-loop μ-loop
-returns-3 c = ?
+returns-3 c = c .is-other-version .ensures ∙ sym (c .before .before .before .before .before .before .before .before .loop .inv ∙ other-first _ _ (c .before .before .before .before .before .before .before .element .ensures) (c .before .before .before .before .before .typ .given .1) (c .before .before .before .is-optional .ensures) (not-true _ (c .before .before .if1 .taken)))
 
--- src/lib.rt:57:5
 loop-less : tie.Need-loop-less Inv-loop μ-loop
-loop-less c = ?
+loop-less c = omega (arith, seen _ _ (c .before .before .before .before .before .element .ensures) (c .before .before .before .typ .given .1))
 
--- src/lib.rt:57:5
 loop-again : tie.Need-loop-again Inv-loop μ-loop
-loop-again c = ?
+loop-again c = c .before .before .before .before .before .before .loop .inv ∙ other-skips _ _ (c .before .before .before .before .before .element .ensures) (c .before .before .before .typ .given .1) (c .before .is-optional .ensures) (not-false _ (c .if1 .left))
 
 pub other-version-spec : {M : Type 1} → statement M
 other-version-spec =

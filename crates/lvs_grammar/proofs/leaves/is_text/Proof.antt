@@ -1,30 +1,49 @@
+-- `lvs_grammar::leaves::is_text` meets its contract: only a Node holds RuleNames. Assumes nothing.
 use borrow.Author.Needs.{needs}
+use Prim.Native.Nat.{ℕ}
+use mathlib.Core.Path.{_≡_, refl, sym, _∙_}
+use mathlib.Core.List.{List, [], _∷_}
+use types.Run.{OneOf, miss}
+use Rattle.lvs_grammar.proofs.types.Kind.{the-type}
+use denote.Enum.Declared.{tagOf}
+use Rattle.lvs_spec.specs.Leaves.{identifier, textIn}
+use Rattle.lvs_grammar.specs.declared.types.Kind.{Kind}
+use Rattle.lvs_grammar.specs.declared.types.Kind.the-variants.{Model, Node, ValueEdge, PatternEdge, Constraint, ConstraintOption, UserFnCall, UserFnArg, TagSymbol}
+use Rattle.lvs_grammar.specs.Types.{kindOf}
 use Rattle.lvs_grammar.proofs.leaves.is_text.Statement.{statement}
 use Rattle.lvs_grammar.proofs.leaves.is_text.Tie as tie
-use Rattle.lvs_grammar.proofs.leaves.is_text.Reads as reads
-use Rattle.lvs_grammar.proofs.leaves.is_text.Lts as lts
-use Rattle.lvs_grammar.proofs.leaves.is_identifier.Reads as is-identifier-reads
-use Rattle.lvs_grammar.proofs.leaves.marked.Reads as marked-reads
 
--- src/leaves.rt:67:23
+-- every kind but Node, by its number
+abbrev others : List ℕ
+others = 0 ∷ 2 ∷ 3 ∷ 4 ∷ 5 ∷ 6 ∷ 7 ∷ 8 ∷ []
+
+elsewhere : (k : Kind) (b : List ℕ) → OneOf others (tagOf the-type k) → identifier b ≡ textIn (kindOf k) b
+unfolding textIn
+elsewhere Node b h = absurd (miss others 1 tt h)
+elsewhere Model b h = refl
+elsewhere ValueEdge b h = refl
+elsewhere PatternEdge b h = refl
+elsewhere Constraint b h = refl
+elsewhere ConstraintOption b h = refl
+elsewhere UserFnCall b h = refl
+elsewhere UserFnArg b h = refl
+elsewhere TagSymbol b h = refl
+
 enum-told : tie.Need-enum-told
 enum-told c = search needs
 
--- src/leaves.rt:67:23
 marked-requires : tie.Need-marked-requires
 marked-requires c κs = search needs
 
--- src/leaves.rt:68:14
 is-identifier-requires : tie.Need-is-identifier-requires
 is-identifier-requires c κs = search needs
 
--- src/leaves.rt:63:1
 returns : tie.Need-returns
-returns c = ?
+unfolding textIn
+returns c = rw (c .before .enum-told .given .1) (c .marked .ensures)
 
--- src/leaves.rt:63:1
 returns-2 : tie.Need-returns-2
-returns-2 c = ?
+returns-2 c = c .is-identifier .ensures ∙ elsewhere (c .before .before .before .args .kind) _ (c .before .match .keys2)
 
 pub is-text-spec : {M : Type 1} → statement M
 is-text-spec =

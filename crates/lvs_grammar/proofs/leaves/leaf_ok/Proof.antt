@@ -1,68 +1,55 @@
+-- `lvs_grammar::leaves::leaf_ok` meets its contract: each leaf has its test. Assumes nothing.
 use borrow.Author.Needs.{needs}
+use Rattle.lvs_spec.specs.Leaves.{leafIn}
 use Rattle.lvs_grammar.proofs.leaves.leaf_ok.Statement.{statement}
 use Rattle.lvs_grammar.proofs.leaves.leaf_ok.Tie as tie
-use Rattle.lvs_grammar.proofs.leaves.leaf_ok.Reads as reads
-use Rattle.lvs_grammar.proofs.leaves.leaf_ok.Lts as lts
-use Rattle.lvs_grammar.proofs.leaves.is_integer.Reads as is-integer-reads
-use Rattle.lvs_grammar.proofs.leaves.is_text.Reads as is-text-reads
-use Rattle.lvs_grammar.proofs.leaves.marked.Reads as marked-reads
-use Rattle.lvs_grammar.proofs.leaves.one_component.Reads as one-component-reads
 
--- src/leaves.rt:23:26
 enum-told : tie.Need-enum-told
 enum-told c = search needs
 
--- src/leaves.rt:24:26
 enum-told-2 : tie.Need-enum-told-2
 enum-told-2 c = search needs
 
--- src/leaves.rt:24:26
 is-integer-requires : tie.Need-is-integer-requires
 is-integer-requires c κs = search needs
 
--- src/leaves.rt:25:24
 enum-told-3 : tie.Need-enum-told-3
 enum-told-3 c = search needs
 
--- src/leaves.rt:25:24
 one-component-requires : tie.Need-one-component-requires
 one-component-requires c κs = search needs
 
--- src/leaves.rt:26:23
 enum-told-4 : tie.Need-enum-told-4
 enum-told-4 c = search needs
 
--- src/leaves.rt:26:23
 is-text-requires : tie.Need-is-text-requires
 is-text-requires c κs = search needs
 
--- src/leaves.rt:27:29
 enum-told-5 : tie.Need-enum-told-5
 enum-told-5 c = search needs
 
--- src/leaves.rt:27:29
 marked-requires : tie.Need-marked-requires
 marked-requires c κs = search needs
 
--- src/leaves.rt:19:1
 returns : tie.Need-returns
-returns c = ?
+unfolding leafIn
+returns c = rw (c .enum-told .given .1)
 
--- src/leaves.rt:19:1
 returns-2 : tie.Need-returns-2
-returns-2 c = ?
+unfolding leafIn
+returns-2 c = rw (c .before .enum-told2 .given .1) (c .is-integer .ensures)
 
--- src/leaves.rt:19:1
 returns-3 : tie.Need-returns-3
-returns-3 c = ?
+unfolding leafIn
+returns-3 c = rw (c .before .enum-told3 .given .1) (c .one-component .ensures)
 
--- src/leaves.rt:19:1
 returns-4 : tie.Need-returns-4
-returns-4 c = ?
+unfolding leafIn
+returns-4 c = rw (c .before .enum-told4 .given .1) (c .is-text .ensures)
 
--- src/leaves.rt:19:1
 returns-5 : tie.Need-returns-5
-returns-5 c = ?
+unfolding leafIn
+returns-5 c = rw (c .before .enum-told5 .given .1) (c .marked .ensures)
 
 pub leaf-ok-spec : {M : Type 1} → statement M
 leaf-ok-spec =

@@ -1,41 +1,33 @@
+-- `lvs_grammar::leaves::marked` meets its contract: the first byte is the mark, and the part behind it an identifier. Assumes nothing.
 use borrow.Author.Needs.{needs}
+use mathlib.Core.Path.{sym, _∙_}
+use Rattle.lvs_grammar.proofs.PlainBytes.{marked-empty, marked-other, marked-rest}
 use Rattle.lvs_grammar.proofs.leaves.marked.Statement.{statement}
 use Rattle.lvs_grammar.proofs.leaves.marked.Tie as tie
-use Rattle.lvs_grammar.proofs.leaves.marked.Reads as reads
-use Rattle.lvs_grammar.proofs.leaves.marked.Lts as lts
-use Rattle.lvs_grammar.proofs.leaves.is_identifier.Reads as is-identifier-reads
 
--- src/leaves.rt:77:9
 returns : tie.Need-returns
-returns c = ?
+returns c = sym (marked-empty (c .before .before .args .mark) _ (c .if1 .taken))
 
--- src/leaves.rt:79:8
 shared-slice-read-if2 : tie.Need-shared-slice-read-if2
 shared-slice-read-if2 c = search needs
 
--- src/leaves.rt:80:9
 returns-2 : tie.Need-returns-2
-returns-2 c = ?
+returns-2 c = sym (marked-other _ _ (c .before .before .if1 .left) (c .if2 .taken))
 
--- src/leaves.rt:82:19
 sub-is-identifier : tie.Need-sub-is-identifier
 sub-is-identifier c = search needs
 
--- src/leaves.rt:82:19
 part-is-identifier-start : tie.Need-part-is-identifier-start
 part-is-identifier-start c = search needs
 
--- src/leaves.rt:82:19
 part-is-identifier-end : tie.Need-part-is-identifier-end
 part-is-identifier-end c = search needs
 
--- src/leaves.rt:82:5
 is-identifier-requires : tie.Need-is-identifier-requires
 is-identifier-requires c κs = search needs
 
--- src/leaves.rt:73:1
 returns-3 : tie.Need-returns-3
-returns-3 c = ?
+returns-3 c = c .is-identifier .ensures ∙ sym (marked-rest _ _ (c .before .before .before .before .if1 .left) (c .before .before .if2 .left))
 
 pub marked-spec : {M : Type 1} → statement M
 marked-spec =
