@@ -3,12 +3,12 @@ use Prim.Native.Nat.{ℕ, zero, suc}
 use mathlib.Core.Path.{_≡_, refl, sym}
 use mathlib.Core.Bool.{Bool, true, false, _||_, false≢true}
 use mathlib.Core.List.{List, [], _∷_, _++_}
-use mathlib.Core.Option.{Option, none, some}
+use mathlib.Core.Option.{none}
 use borrow.Author.Tests.{ne-eqb}
 use lib.Dec.{eqb}
 use lib.ListN.{drop}
 use Rattle.lvs_spec.specs.Lists.{member}
-use Rattle.lvs_spec.specs.Grammar.{Kind, Known, Item, Meaning, once, maybe, many, knownTypes, lookup, unknown, meaning, order, step}
+use Rattle.lvs_spec.specs.Grammar.{Kind, Known, Item, once, maybe, many, knownTypes, lookup, unknown, meaning, order, step}
 
 -- t is none of these, and A: as the rest of a `match` has it
 abbrev pub Apart : Type 0 → List ℕ → ℕ → Type 0

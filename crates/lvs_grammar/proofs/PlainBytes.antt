@@ -1,18 +1,17 @@
 -- Leaves: what each test on the bytes says of the definition. Assumes nothing.
-use Prim.Native.Nat.{ℕ, zero, suc, _+_, _-_, _≤_, _<_}
+use Prim.Native.Nat.{ℕ, _+_, _-_, _≤_, _<_}
 use mathlib.Core.Path.{_≡_, refl, sym, ap, subst, _∙_}
-use mathlib.Core.Bool.{Bool, true, false, cond, _&&_, _||_}
+use mathlib.Core.Bool.{Bool, true, false, _&&_}
 use mathlib.Core.List.{List, [], _∷_}
-use mathlib.Core.Option.{Option, none, some}
 use native.Mathlib.Numerals.{add-one}
 use native.Mathlib.Omega.{arith}
 use borrow.Author.Tests.{eqb-true, eqb-false, eq-eqb, ne-eqb}
-use lib.Dec.{leb, ltb, eqb}
+use lib.Dec.{leb, eqb}
 use lib.ListN.{length, getD, take, drop, length-drop, drop-of-length-le}
 use lib.Seq.{drop-cons, take-all}
 use Rattle.tlv.specs.Number.{integerSize, integer}
 use Rattle.tlv.specs.Element.{Element, First, end, malformed, first, element}
-use Rattle.tlv.specs.Reading.{readAt, readFrom, integerOf, integerFrom}
+use Rattle.tlv.specs.Reading.{readAt, readFrom, integerOf}
 use Rattle.tlv.specs.declared.IntegerRead.{IntegerRead}
 use Rattle.tlv.specs.declared.IntegerRead.the-variants.{Integer, OtherSize}
 use Rattle.tlv.specs.declared.Read.{Read}
@@ -20,7 +19,7 @@ use Rattle.tlv.specs.declared.Read.the-variants.{Found, End, Malformed}
 use Rattle.tlv.proofs.Cuts.{Whole, element-whole}
 use Rattle.lvs_spec.specs.Lists.{all}
 use Rattle.lvs_spec.specs.Limits.{maxComponentType}
-use Rattle.lvs_spec.specs.Leaves.{isComponent, oneComponent, letter, letterOrDigit, identifier, marked, textIn}
+use Rattle.lvs_spec.specs.Leaves.{isComponent, oneComponent, letter, letterOrDigit, identifier, marked}
 
 -- ---- integers
 

@@ -23,7 +23,7 @@ use Rattle.lvs_grammar.specs.declared.order.Next.the-variants.{Refused, 
 use Rattle.lvs_grammar.specs.declared.types.Known as knowns
 use Rattle.lvs_grammar.specs.declared.types.Meaning.{Meaning}
 use Rattle.lvs_grammar.specs.declared.types.Meaning.the-variants.{Optional, Critical, Known}
-use Rattle.lvs_grammar.specs.Types.{knownOf, meaningIs, isOptional}
+use Rattle.lvs_grammar.specs.Types.{knownOf, meaningOf, isOptional}
 use Rattle.lvs_grammar.specs.States.{leftBehind}
 
 -- the element between two places of a list
@@ -54,23 +54,23 @@ module _ (n : ℕ) (k : Kind) (q : ℕ) (s : List ℕ) (at : ℕ) {r : Read} (e 
   unfolding formedFrom inOrder
   formed-broken f = rw (seen s at e f)
 
-  module _ {t a b : ℕ} {p : Place} (f : r ≡ Found t a b p) (m : Meaning) (g : meaningIs m ≡ meaning t) where
+  module _ {t a b : ℕ} {p : Place} (f : r ≡ Found t a b p) (m : Meaning) (g : meaningOf m ≡ meaning t) where
     cut : formedFrom n k q s at ≡ inOrder (wellFormedBy n) k (drop q (order k)) (next (part s t a b) (cuts (drop (p .at) s)))
     unfolding formedFrom
     cut = rw (seen s at e f .cut-is)
 
     pub formed-optional : m ≡ Optional → formedFrom n k q s at ≡ formedFrom n k q s (p .at)
     unfolding formedFrom
-    formed-optional h = cut ∙ optional-next (wellFormedBy n) k (drop q (order k)) (part s t a b) (cuts (drop (p .at) s)) (sym g ∙ ap meaningIs h)
+    formed-optional h = cut ∙ optional-next (wellFormedBy n) k (drop q (order k)) (part s t a b) (cuts (drop (p .at) s)) (sym g ∙ ap meaningOf h)
 
     pub formed-critical : m ≡ Critical → formedFrom n k q s at ≡ false
-    formed-critical h = cut ∙ critical-next (wellFormedBy n) k (drop q (order k)) (part s t a b) (cuts (drop (p .at) s)) (sym g ∙ ap meaningIs h)
+    formed-critical h = cut ∙ critical-next (wellFormedBy n) k (drop q (order k)) (part s t a b) (cuts (drop (p .at) s)) (sym g ∙ ap meaningOf h)
 
     module _ {w : knowns.Known} (h : m ≡ Known w) (x : Next) (i : leftBehind k x ≡ step (drop q (order k)) t) where
       known : formedFrom n k q s at ≡ goesOn (wellFormedBy n) k (knownOf w) (part s t a b) (cuts (drop (p .at) s)) (leftBehind k x)
       known =
           cut
-          ∙ known-next (wellFormedBy n) k (drop q (order k)) (part s t a b) (cuts (drop (p .at) s)) (knownOf w) (sym g ∙ ap meaningIs h)
+          ∙ known-next (wellFormedBy n) k (drop q (order k)) (part s t a b) (cuts (drop (p .at) s)) (knownOf w) (sym g ∙ ap meaningOf h)
           ∙ ap (goesOn (wellFormedBy n) k (knownOf w) (part s t a b) (cuts (drop (p .at) s))) (sym i)
 
       pub formed-refused : x ≡ Refused → formedFrom n k q s at ≡ false

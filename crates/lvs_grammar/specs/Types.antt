@@ -32,10 +32,10 @@ abbrev pub knownOf : Known → grammar.Known
 knownOf (Plain l) = grammar.leaf (leafOf l)
 knownOf (Container k) = grammar.container (kindOf k)
 
-abbrev pub meaningIs : meanings.Meaning → grammar.Meaning
-meaningIs means.Optional = grammar.optional
-meaningIs means.Critical = grammar.critical
-meaningIs (means.Known w) = grammar.known (knownOf w)
+abbrev pub meaningOf : meanings.Meaning → grammar.Meaning
+meaningOf means.Optional = grammar.optional
+meaningOf means.Critical = grammar.critical
+meaningOf (means.Known w) = grammar.known (knownOf w)
 
 abbrev pub isOptional : grammar.Meaning → Bool
 isOptional grammar.optional = true

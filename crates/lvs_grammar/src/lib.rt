@@ -16,11 +16,12 @@ use types::Meaning;
 use types::is_optional;
 use types::meaning_of;
 ghost use mathlib.Core.Path.{_≡_};
-ghost use Rattle.tlv.specs.Element.{Element};
 ghost use Rattle.lvs_spec.specs.WellFormed.{insideOk, wellFormedBy, isOtherVersion, otherVersion};
 ghost use Rattle.lvs_grammar.specs.Types.{kindOf, knownOf};
 ghost use Rattle.lvs_grammar.specs.Readings.{readingOf};
 
+// The only version that is read: 0x00011000.
+const THIS_VERSION: [u8; 4] = [0x00, 0x01, 0x10, 0x00];
 // Model, Node, PatternEdge, Constraint, ConstraintOption, UserFnCall, UserFnArg: no deeper.
 const DEPTH: u8 = 7;
 
@@ -81,7 +82,7 @@ fn is_other_version(typ: u32, inside: &[u8]) -> bool
     if inside.len() != 4 {
         return false;
     }
-    !tlv::same_bytes(inside, b"\x00\x01\x10\x00")
+    !tlv::same_bytes(inside, &THIS_VERSION)
 }
 
 // Whether the bytes are the whole inside of a container of this kind, read to at most this depth.

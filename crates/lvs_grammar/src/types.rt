@@ -1,7 +1,7 @@
 // What an element is: its type number alone decides (document 01, "Elements").
 ghost use mathlib.Core.Path.{_≡_};
 ghost use Rattle.lvs_spec.specs.Grammar.{meaning, unknown};
-ghost use Rattle.lvs_grammar.specs.Types.{meaningIs, isOptional};
+ghost use Rattle.lvs_grammar.specs.Types.{meaningOf, isOptional};
 
 pub const VALUE: u32 = 0x21;
 
@@ -71,7 +71,7 @@ pub enum Meaning {
 }
 
 pub fn meaning_of(typ: u32) -> Meaning
-    ensures { λ r. ⌜ meaningIs r ≡ meaning typ ⌝ }
+    ensures { λ r. ⌜ meaningOf r ≡ meaning typ ⌝ }
 {
     match typ {
         VALUE => Meaning::Known(Known::Plain(Leaf::Value)),
@@ -97,7 +97,7 @@ pub fn meaning_of(typ: u32) -> Meaning
 
 // An unknown type that is even and at least 32 is optional, any other is critical.
 fn unknown_type(typ: u32) -> Meaning
-    ensures { λ r. ⌜ meaningIs r ≡ unknown typ ⌝ }
+    ensures { λ r. ⌜ meaningOf r ≡ unknown typ ⌝ }
 {
     if typ < 32 {
         return Meaning::Critical;

@@ -1,7 +1,7 @@
 -- `lvs_grammar::leaves::is_text` meets its contract: only a Node holds RuleNames. Assumes nothing.
 use borrow.Author.Needs.{needs}
 use Prim.Native.Nat.{ℕ}
-use mathlib.Core.Path.{_≡_, refl, sym, _∙_}
+use mathlib.Core.Path.{_≡_, refl, _∙_}
 use mathlib.Core.List.{List, [], _∷_}
 use types.Run.{OneOf, miss}
 use Rattle.lvs_grammar.proofs.types.Kind.{the-type}

@@ -1,7 +1,7 @@
 -- `lvs_grammar::types::is_optional` meets its contract. Assumes nothing.
 use borrow.Author.Needs.{needs}
-use mathlib.Core.Path.{ap, _∙_}
-use Rattle.lvs_grammar.specs.Types.{isOptional, meaningIs}
+use mathlib.Core.Path.{ap}
+use Rattle.lvs_grammar.specs.Types.{isOptional}
 use Rattle.lvs_grammar.proofs.types.is_optional.Statement.{statement}
 use Rattle.lvs_grammar.proofs.types.is_optional.Tie as tie
 
