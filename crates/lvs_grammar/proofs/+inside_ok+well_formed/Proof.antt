@@ -100,43 +100,100 @@ formed-loop-holds : (t : ℕ) → formed-need formed-lts.Need-loop-holds t
 formed-loop-holds t c = formed-start _ _ _ (c .if1 .left)
 
 formed-returns-2 : (t : ℕ) → formed-need formed-lts.Need-returns-2 t
-formed-returns-2 t c = sym (c .before .before .before .before .loop .inv ∙ formed-end _ _ _ _ _ (c .before .before .before .element .ensures) (c .before .enum-told .given .1) (c .may-end .ensures))
+formed-returns-2 t c =
+    let e = c .before .before .before in
+    let l = e .before in
+    sym (l .loop .inv ∙ formed-end _ _ _ _ _ (e .element .ensures) (c .before .enum-told .given .1) (c .may-end .ensures))
 
 formed-returns-3 : (t : ℕ) → formed-need formed-lts.Need-returns-3 t
-formed-returns-3 t c = sym (c .before .before .before .loop .inv ∙ formed-broken _ _ _ _ _ (c .before .before .element .ensures) (c .enum-told2 .given .1))
+formed-returns-3 t c =
+    let e = c .before .before in
+    let l = e .before in
+    sym (l .loop .inv ∙ formed-broken _ _ _ _ _ (e .element .ensures) (c .enum-told2 .given .1))
 
 formed-loop-less : (t : ℕ) → formed-need formed-lts.Need-loop-less t
-formed-loop-less t c = omega (arith, seen _ _ (c .before .before .before .before .before .before .element .ensures) (c .before .before .before .before .typ .given .1))
+formed-loop-less t c =
+    let y = c .before .before .before .before in
+    let e = y .before .before in
+    omega (arith, seen _ _ (e .element .ensures) (y .typ .given .1))
 
 formed-loop-again : (t : ℕ) → formed-need formed-lts.Need-loop-again t
-formed-loop-again t c = c .before .before .before .before .before .before .before .loop .inv ∙ formed-optional _ _ _ _ _ (c .before .before .before .before .before .before .element .ensures) (c .before .before .before .before .typ .given .1) _ (c .before .before .meaning-of .ensures) (c .enum-told3 .given .1)
+formed-loop-again t c =
+    let m = c .before .before in
+    let y = m .before .before in
+    let e = y .before .before in
+    let l = e .before in
+    l .loop .inv ∙ formed-optional _ _ _ _ _ (e .element .ensures) (y .typ .given .1) _ (m .meaning-of .ensures) (c .enum-told3 .given .1)
 
 formed-returns-4 : (t : ℕ) → formed-need formed-lts.Need-returns-4 t
-formed-returns-4 t c = sym (c .before .before .before .before .before .before .before .loop .inv ∙ formed-critical _ _ _ _ _ (c .before .before .before .before .before .before .element .ensures) (c .before .before .before .before .typ .given .1) _ (c .before .before .meaning-of .ensures) (c .enum-told4 .given .1))
+formed-returns-4 t c =
+    let m = c .before .before in
+    let y = m .before .before in
+    let e = y .before .before in
+    let l = e .before in
+    sym (l .loop .inv ∙ formed-critical _ _ _ _ _ (e .element .ensures) (y .typ .given .1) _ (m .meaning-of .ensures) (c .enum-told4 .given .1))
 
 formed-returns-5 : (t : ℕ) → formed-need formed-lts.Need-returns-5 t
-formed-returns-5 t c = sym (c .before .before .before .before .before .before .before .before .before .before .before .loop .inv ∙ formed-refused _ _ _ _ _ (c .before .before .before .before .before .before .before .before .before .before .element .ensures) (c .before .before .before .before .before .before .before .before .typ .given .1) _ (c .before .before .before .before .before .before .meaning-of .ensures) (c .before .before .before .before .known .given .1) _ (c .before .before .next-state .ensures) (c .enum-told5 .given .1))
+formed-returns-5 t c =
+    let n = c .before .before in
+    let k = n .before .before in
+    let m = k .before .before in
+    let y = m .before .before in
+    let e = y .before .before in
+    let l = e .before in
+    sym (l .loop .inv ∙ formed-refused _ _ _ _ _ (e .element .ensures) (y .typ .given .1) _ (m .meaning-of .ensures) (k .known .given .1) _ (n .next-state .ensures) (c .enum-told5 .given .1))
 
 formed-sub-inside-ok : (t : ℕ) → formed-need formed-lts.Need-sub-inside-ok t
-formed-sub-inside-ok t c = omega (arith, seen _ _ (c .before .before .before .before .before .before .before .before .before .before .before .element .ensures) (c .before .before .before .before .before .before .before .before .before .typ .given .1))
+formed-sub-inside-ok t c =
+    let y = c .before .before .before .before .before .before .before .before .before in
+    let e = y .before .before in
+    omega (arith, seen _ _ (e .element .ensures) (y .typ .given .1))
 
 formed-part-inside-ok-start : (t : ℕ) → formed-need formed-lts.Need-part-inside-ok-start t
-formed-part-inside-ok-start t c = omega (arith, seen _ _ (c .before .before .before .before .before .before .before .before .before .before .before .element .ensures) (c .before .before .before .before .before .before .before .before .before .typ .given .1))
+formed-part-inside-ok-start t c =
+    let y = c .before .before .before .before .before .before .before .before .before in
+    let e = y .before .before in
+    omega (arith, seen _ _ (e .element .ensures) (y .typ .given .1))
 
 formed-part-inside-ok-end : (t : ℕ) → formed-need formed-lts.Need-part-inside-ok-end t
-formed-part-inside-ok-end t c = omega (arith, seen _ _ (c .before .before .before .before .before .before .before .before .before .before .before .element .ensures) (c .before .before .before .before .before .before .before .before .before .typ .given .1))
+formed-part-inside-ok-end t c =
+    let y = c .before .before .before .before .before .before .before .before .before in
+    let e = y .before .before in
+    omega (arith, seen _ _ (e .element .ensures) (y .typ .given .1))
 
 formed-inside-ok-requires : (t : ℕ) → formed-need formed-lts.Need-inside-ok-requires t
-formed-inside-ok-requires t c κs = (omega (arith, c .before .before .before .before .before .before .before .before .before .before .before .before .before .before .before .before .pre .0, c .before .before .before .before .before .before .before .before .before .before .before .before .before .before .if1 .left), tt)
+formed-inside-ok-requires t c κs =
+    let f = c .before .before .before .before .before .before .before .before .before .before .before .before .before .before in
+    let s = f .before .before in
+    (omega (arith, s .pre .0, f .if1 .left), tt)
 
 formed-returns-6 : (t : ℕ) → formed-need formed-lts.Need-returns-6 t
-formed-returns-6 t c = sym (c .before .before .before .before .before .before .before .before .before .before .before .before .before .before .before .loop .inv ∙ formed-bad _ _ _ _ _ (c .before .before .before .before .before .before .before .before .before .before .before .before .before .before .element .ensures) (c .before .before .before .before .before .before .before .before .before .before .before .before .typ .given .1) _ (c .before .before .before .before .before .before .before .before .before .before .meaning-of .ensures) (c .before .before .before .before .before .before .before .before .known .given .1) _ (c .before .before .before .before .before .before .next-state .ensures) (c .before .before .before .before .q .given .1) (c .before .inside-ok .ensures) (not-true _ (c .if2 .taken)))
+formed-returns-6 t c =
+    let q = c .before .before .before .before in
+    let n = q .before .before in
+    let k = n .before .before in
+    let m = k .before .before in
+    let y = m .before .before in
+    let e = y .before .before in
+    let l = e .before in
+    sym (l .loop .inv ∙ formed-bad _ _ _ _ _ (e .element .ensures) (y .typ .given .1) _ (m .meaning-of .ensures) (k .known .given .1) _ (n .next-state .ensures) (q .q .given .1) (c .before .inside-ok .ensures) (not-true _ (c .if2 .taken)))
 
 formed-loop-less-2 : (t : ℕ) → formed-need formed-lts.Need-loop-less-2 t
-formed-loop-less-2 t c = omega (arith, seen _ _ (c .before .before .before .before .before .before .before .before .before .before .before .before .before .before .element .ensures) (c .before .before .before .before .before .before .before .before .before .before .before .before .typ .given .1))
+formed-loop-less-2 t c =
+    let y = c .before .before .before .before .before .before .before .before .before .before .before .before in
+    let e = y .before .before in
+    omega (arith, seen _ _ (e .element .ensures) (y .typ .given .1))
 
 formed-loop-again-2 : (t : ℕ) → formed-need formed-lts.Need-loop-again-2 t
-formed-loop-again-2 t c = c .before .before .before .before .before .before .before .before .before .before .before .before .before .before .before .loop .inv ∙ formed-on _ _ _ _ _ (c .before .before .before .before .before .before .before .before .before .before .before .before .before .before .element .ensures) (c .before .before .before .before .before .before .before .before .before .before .before .before .typ .given .1) _ (c .before .before .before .before .before .before .before .before .before .before .meaning-of .ensures) (c .before .before .before .before .before .before .before .before .known .given .1) _ (c .before .before .before .before .before .before .next-state .ensures) (c .before .before .before .before .q .given .1) (c .before .inside-ok .ensures) (not-false _ (c .if2 .left))
+formed-loop-again-2 t c =
+    let q = c .before .before .before .before in
+    let n = q .before .before in
+    let k = n .before .before in
+    let m = k .before .before in
+    let y = m .before .before in
+    let e = y .before .before in
+    let l = e .before in
+    l .loop .inv ∙ formed-on _ _ _ _ _ (e .element .ensures) (y .typ .given .1) _ (m .meaning-of .ensures) (k .known .given .1) _ (n .next-state .ensures) (q .q .given .1) (c .before .inside-ok .ensures) (not-false _ (c .if2 .left))
 
 pub +inside-ok+well-formed-spec : {M : Type 1} → statement M
 +inside-ok+well-formed-spec = close μ-inside μ-formed (λ t. inside-lts.spec (inside-calls t)

@@ -42,25 +42,46 @@ is-optional-requires : tie.Need-is-optional-requires Inv-loop μ-loop
 is-optional-requires c κs = search needs
 
 sub-is-other-version : tie.Need-sub-is-other-version Inv-loop μ-loop
-sub-is-other-version c = omega (arith, seen _ _ (c .before .before .before .before .before .element .ensures) (c .before .before .before .typ .given .1))
+sub-is-other-version c =
+    let y = c .before .before .before in
+    let e = y .before .before in
+    omega (arith, seen _ _ (e .element .ensures) (y .typ .given .1))
 
 part-is-other-version-start : tie.Need-part-is-other-version-start Inv-loop μ-loop
-part-is-other-version-start c = omega (arith, seen _ _ (c .before .before .before .before .before .element .ensures) (c .before .before .before .typ .given .1))
+part-is-other-version-start c =
+    let y = c .before .before .before in
+    let e = y .before .before in
+    omega (arith, seen _ _ (e .element .ensures) (y .typ .given .1))
 
 part-is-other-version-end : tie.Need-part-is-other-version-end Inv-loop μ-loop
-part-is-other-version-end c = omega (arith, seen _ _ (c .before .before .before .before .before .element .ensures) (c .before .before .before .typ .given .1))
+part-is-other-version-end c =
+    let y = c .before .before .before in
+    let e = y .before .before in
+    omega (arith, seen _ _ (e .element .ensures) (y .typ .given .1))
 
 is-other-version-requires : tie.Need-is-other-version-requires Inv-loop μ-loop
 is-other-version-requires c κs = search needs
 
 returns-3 : tie.Need-returns-3 Inv-loop μ-loop
-returns-3 c = c .is-other-version .ensures ∙ sym (c .before .before .before .before .before .before .before .before .loop .inv ∙ other-first _ _ (c .before .before .before .before .before .before .before .element .ensures) (c .before .before .before .before .before .typ .given .1) (c .before .before .before .is-optional .ensures) (not-true _ (c .before .before .if1 .taken)))
+returns-3 c =
+    let o = c .before .before .before in
+    let y = o .before .before in
+    let e = y .before .before in
+    let l = e .before in
+    c .is-other-version .ensures ∙ sym (l .loop .inv ∙ other-first _ _ (e .element .ensures) (y .typ .given .1) (o .is-optional .ensures) (not-true _ (c .before .before .if1 .taken)))
 
 loop-less : tie.Need-loop-less Inv-loop μ-loop
-loop-less c = omega (arith, seen _ _ (c .before .before .before .before .before .element .ensures) (c .before .before .before .typ .given .1))
+loop-less c =
+    let y = c .before .before .before in
+    let e = y .before .before in
+    omega (arith, seen _ _ (e .element .ensures) (y .typ .given .1))
 
 loop-again : tie.Need-loop-again Inv-loop μ-loop
-loop-again c = c .before .before .before .before .before .before .loop .inv ∙ other-skips _ _ (c .before .before .before .before .before .element .ensures) (c .before .before .before .typ .given .1) (c .before .is-optional .ensures) (not-false _ (c .if1 .left))
+loop-again c =
+    let y = c .before .before .before in
+    let e = y .before .before in
+    let l = e .before in
+    l .loop .inv ∙ other-skips _ _ (e .element .ensures) (y .typ .given .1) (c .before .is-optional .ensures) (not-false _ (c .if1 .left))
 
 pub other-version-spec : {M : Type 1} → statement M
 other-version-spec =

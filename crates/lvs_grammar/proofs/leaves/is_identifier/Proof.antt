@@ -39,7 +39,10 @@ is-letter-or-digit-requires : tie.Need-is-letter-or-digit-requires Inv-loop μ-l
 is-letter-or-digit-requires c κs = search needs
 
 returns-3 : tie.Need-returns-3 Inv-loop μ-loop
-returns-3 c = sym (c .before .before .before .before .loop .inv .1 ∙ all-stops letterOrDigit _ _ (c .before .before .before .loop-test .taken) (c .before .is-letter-or-digit .ensures) (not-true _ (c .if3 .taken)))
+returns-3 c =
+    let t = c .before .before .before in
+    let l = t .before in
+    sym (l .loop .inv .1 ∙ all-stops letterOrDigit _ _ (t .loop-test .taken) (c .before .is-letter-or-digit .ensures) (not-true _ (c .if3 .taken)))
 
 add-i : tie.Need-add-i Inv-loop μ-loop
 add-i c = omega arith
@@ -48,7 +51,10 @@ loop-less : tie.Need-loop-less Inv-loop μ-loop
 loop-less c = omega arith
 
 loop-again : tie.Need-loop-again Inv-loop μ-loop
-loop-again c = (omega arith, c .before .before .before .before .loop .inv .1 ∙ all-goes-on letterOrDigit _ _ (c .before .before .before .loop-test .taken) (c .before .is-letter-or-digit .ensures) (not-false _ (c .if3 .left)))
+loop-again c =
+    let t = c .before .before .before in
+    let l = t .before in
+    (omega arith, l .loop .inv .1 ∙ all-goes-on letterOrDigit _ _ (t .loop-test .taken) (c .before .is-letter-or-digit .ensures) (not-false _ (c .if3 .left)))
 
 returns-4 : tie.Need-returns-4 Inv-loop μ-loop
 returns-4 c = sym (c .before .loop .inv .1 ∙ all-ends letterOrDigit _ _ (c .loop-test .left))
