@@ -1,0 +1,5 @@
+pub mod Apart
+pub mod States
+pub mod PlainBytes
+pub mod Turns
+pub mod Readings

@@ -1,0 +1,36 @@
+-- `lvs_grammar::order::in_constraint_option` meets its contract: each type of the order by the law of a slot, whose test is computed. Assumes nothing.
+use borrow.Author.Needs.{needs}
+use mathlib.Core.Path.{refl}
+use Rattle.lvs_spec.specs.Grammar.{constraintOption, order}
+use Rattle.lvs_grammar.proofs.Apart.{refused}
+use Rattle.lvs_grammar.proofs.States.{slot-step}
+use Rattle.lvs_grammar.proofs.order.in_constraint_option.Statement.{statement}
+use Rattle.lvs_grammar.proofs.order.in_constraint_option.Tie as tie
+
+slot-requires : tie.Need-slot-requires
+slot-requires c κs = search needs
+
+slot-requires-2 : tie.Need-slot-requires-2
+slot-requires-2 c κs = search needs
+
+slot-requires-3 : tie.Need-slot-requires-3
+slot-requires-3 c κs = search needs
+
+returns : tie.Need-returns
+unfolding order
+returns c = slot-step constraintOption (c .before .match .keys1) (c .slot .ensures) refl
+
+returns-2 : tie.Need-returns-2
+unfolding order
+returns-2 c = slot-step constraintOption (c .before .match .keys2) (c .slot2 .ensures) refl
+
+returns-3 : tie.Need-returns-3
+unfolding order
+returns-3 c = slot-step constraintOption (c .before .match .keys3) (c .slot3 .ensures) refl
+
+returns-4 : tie.Need-returns-4
+unfolding order
+returns-4 c = refused constraintOption (c .before .args .state) (c .before .args .typ) (c .match .rest)
+
+pub in-constraint-option-spec : {M : Type 1} → statement M
+in-constraint-option-spec = tie.close (tie.spec slot-requires slot-requires-2 slot-requires-3 returns returns-2 returns-3 returns-4)

@@ -1,0 +1,35 @@
+-- `lvs_grammar::read_model` meets its contract: each test says which case of `readingOf` holds. Assumes nothing.
+use borrow.Author.Needs.{needs}
+use mathlib.Core.Path.{sym, _∙_}
+use borrow.Author.Tests.{lt-ltb, le-ltb}
+use Rattle.lvs_spec.specs.WellFormed.{tooLong, wellFormed}
+use Rattle.lvs_grammar.specs.Readings.{readingOf}
+use Rattle.lvs_grammar.proofs.read_model.Statement.{statement}
+use Rattle.lvs_grammar.proofs.read_model.Tie as tie
+
+returns : tie.Need-returns
+unfolding readingOf tooLong
+returns c = rw (lt-ltb _ _ (c .if1 .taken))
+
+other-version-requires : tie.Need-other-version-requires
+other-version-requires c κs = search needs
+
+returns-2 : tie.Need-returns-2
+unfolding readingOf tooLong
+returns-2 c = rw (le-ltb _ _ (c .before .before .if1 .left), sym (c .before .other-version .ensures) ∙ c .if2 .taken)
+
+well-formed-requires : tie.Need-well-formed-requires
+well-formed-requires c κs = search needs
+
+returns-3 : tie.Need-returns-3
+unfolding readingOf tooLong wellFormed
+returns-3 c = rw (le-ltb _ _ (c .before .before .before .before .if1 .left), sym (c .before .before .before .other-version .ensures) ∙ c .before .before .if2 .left, sym (c .before .well-formed .ensures) ∙ c .if3 .taken)
+
+returns-4 : tie.Need-returns-4
+unfolding readingOf tooLong wellFormed
+returns-4 c = rw (le-ltb _ _ (c .before .before .before .before .if1 .left), sym (c .before .before .before .other-version .ensures) ∙ c .before .before .if2 .left, sym (c .before .well-formed .ensures) ∙ c .if3 .left)
+
+pub read-model-spec : {M : Type 1} → statement M
+read-model-spec =
+    tie.close
+    (tie.spec returns other-version-requires returns-2 well-formed-requires returns-3 returns-4)
