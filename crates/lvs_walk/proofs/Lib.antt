@@ -1,3 +1,5 @@
 pub mod Nodes
 pub mod Edges
 pub mod Laws
+pub mod Words
+pub mod Answers

@@ -1,3 +1,4 @@
 pub mod Nodes
 pub mod Hits
 pub mod Crossing
+pub mod Calls

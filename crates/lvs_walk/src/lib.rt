@@ -2,17 +2,21 @@
 //
 // `places` has the place of each Node, `packet` and `key` are the two names, `slots` the bindings as they stand.
 ghost use mathlib.Core.Path.{_≡_};
-ghost use mathlib.Core.Bool.{true, false};
+ghost use mathlib.Core.Bool.{true, false, cond};
+ghost use lib.Dec.{eqb};
 ghost use Prim.Native.Nat.{ℕ, _+_, _*_, _≤_, _<_};
-ghost use lib.ListN.{length};
-ghost use Rattle.lvs_spec.specs.Limits.{maxModelBytes, maxNodes, bindingWords};
+ghost use lib.ListN.{length, take, drop};
+ghost use mathlib.Core.List.{[], _++_};
+ghost use Rattle.lvs_spec.specs.Limits.{maxNodes, maxNameBytes, bindingWords};
+ghost use Rattle.lvs_spec.specs.Answers.{words, boundCount};
 ghost use Rattle.lvs_spec.specs.Types as type;
 ghost use Rattle.lvs_spec.specs.Lists.{member};
-ghost use Rattle.lvs_spec.specs.Model.{insides, integers, modelOf};
+ghost use Rattle.lvs_spec.specs.Model.{integers, modelOf};
 ghost use Rattle.lvs_spec.specs.Walk.{lists};
 ghost use Rattle.lvs_names.specs.Rows.{rowFrom};
-ghost use Rattle.lvs_constraints.specs.Bindings.{bindingsOf};
+ghost use Rattle.lvs_constraints.specs.Bindings.{binding, bindingsOf};
 ghost use Rattle.lvs_walk.specs.Nodes.{NodesAt, NodePart, EdgeFrom};
+ghost use Rattle.lvs_walk.specs.Calls.{Small, clear, FirstMatch, FirstPair, wordOf};
 ghost use Rattle.lvs_walk.specs.Hits.{hits, nameFor, textPlace, Within, First};
 ghost use Rattle.lvs_walk.specs.Crossing.{componentAt, edgeType, crossing, undone, Saved, Crossed};
 use lvs_constraints::Slot;
@@ -375,4 +379,131 @@ fn walk<'a>(
             }
         }
     }
+}
+
+// Records the place of each Node, and says how many there are.
+fn node_places(model: &[u8], places: &mut [u32]) -> usize
+    requires { ⌜ Small (now model) ⌝ }
+    requires { ⌜ length (now places) ≡ maxNodes ⌝ }
+    ensures { λ r. ⌜ (r ≤ maxNodes) × NodesAt (now (model .entry)) (take r (now (places .exit))) ⌝ }
+{
+    let mut place = Place { at: 0 };
+    let mut n: usize = 0;
+    loop {
+        let at = place.at;
+        match place.element(model) {
+            Read::Found {
+                typ,
+                start: _,
+                end: _,
+                next,
+            } => {
+                place = next;
+                if typ == NODE {
+                    places[n] = at as u32;
+                    n += 1;
+                }
+            }
+            Read::End => {
+                return n;
+            }
+            Read::Malformed => {
+                return n;
+            }
+        }
+    }
+}
+
+// The first match of the name whose components start at `from`; its bindings are left in the slots.
+pub fn find_match(model: &[u8], name: &[u8], from: usize, slots: &mut [u32]) -> Found
+    requires { ⌜ Small (now model) ⌝ }
+    requires { ⌜ (length (now name) ≤ maxNameBytes) × (now slots ≡ clear) ⌝ }
+    ensures { λ r. ⌜ FirstMatch (modelOf (now (model .entry))) (rowFrom (now (name .entry)) from) (now (name .entry)) r (now (slots .exit)) ⌝ }
+{
+    let mut places = [0u32; 256];
+    let n = node_places(model, &mut places);
+    let start = lvs_fields::number_in(model, NODE_ID);
+    walk(
+        model,
+        &places[..n],
+        start,
+        name,
+        &name[..0],
+        0,
+        Goal::Match,
+        start,
+        from,
+        slots,
+    )
+}
+
+// The first pair of a packet match and a key match that may sign it.
+pub fn find_pair<'a>(
+    model: &[u8],
+    packet: &'a [u8],
+    packet_from: usize,
+    key: &'a [u8],
+    key_from: usize,
+) -> Found
+    requires { ⌜ Small (now model) ⌝ }
+    requires { ⌜ (length (now packet) ≤ maxNameBytes) × (length (now key) ≤ maxNameBytes) ⌝ }
+    ensures { λ r. ⌜ FirstPair (modelOf (now (model .entry))) (rowFrom (now (packet .entry)) «packet_from») (rowFrom (now (key .entry)) «key_from») r ⌝ }
+{
+    let mut places = [0u32; 256];
+    let n = node_places(model, &mut places);
+    let start = lvs_fields::number_in(model, NODE_ID);
+    let mut slots = [0u32; 256];
+    walk(
+        model,
+        &places[..n],
+        start,
+        packet,
+        key,
+        key_from,
+        Goal::Packet,
+        start,
+        packet_from,
+        &mut slots,
+    )
+}
+
+// Writes the words of a match over the first ones of a buffer, and says how many Tags are bound.
+pub fn write_words(name: &[u8], slots: &[u32], buffer: &mut [u32]) -> u32
+    requires { ⌜ (length (now slots) ≡ bindingWords) × (bindingWords ≤ length (now buffer)) ⌝ }
+    ensures { λ r. ⌜ (r ≡ boundCount (bindingsOf (now (name .entry)) [] (now (slots .entry))))
+        × (now (buffer .exit) ≡ words (bindingsOf (now (name .entry)) [] (now (slots .entry))) ++ drop bindingWords (now (buffer .entry))) ⌝ }
+{
+    let mut bound: u32 = 0;
+    let mut i: usize = 0;
+    while i < 128 {
+        let start = slots[i * 2];
+        let size = slots[i * 2 + 1];
+        bound += one_if_bound(size);
+        buffer[i * 2] = place_of(name, start, size);
+        buffer[i * 2 + 1] = size;
+        i += 1;
+    }
+    bound
+}
+
+fn one_if_bound(size: u32) -> u32
+    ensures { λ r. ⌜ r ≡ cond (eqb size 0) 0 1 ⌝ }
+{
+    if size == 0 {
+        return 0;
+    }
+    1
+}
+
+// The start of a binding in its own name, 0 where there is none.
+fn place_of(name: &[u8], start: u32, size: u32) -> u32
+    ensures { λ r. ⌜ r ≡ wordOf (binding (now (name .entry)) [] start size) ⌝ }
+{
+    if size == 0 {
+        return 0;
+    }
+    if (start as usize) < name.len() {
+        return start;
+    }
+    (start as usize - name.len()) as u32
 }

@@ -1,0 +1,90 @@
+// The public face: three calls on slices. Any bytes have an answer, and no call relies on an earlier one.
+ghost use mathlib.Core.Path.{_≡_};
+ghost use Rattle.lvs_spec.specs.Verdict.{verdict};
+ghost use Rattle.lvs_spec.specs.Answers.{matchOutcome, signAnswer};
+ghost use Rattle.lvs.specs.Readings.{verdictOf, matchAnswerOf, signAnswerOf};
+use lvs_grammar::Reading;
+use lvs_names::NameRead;
+use lvs_rules::Judged;
+use lvs_walk::Found;
+
+const PACKET_REFUSALS: u32 = 21;
+
+const KEY_REFUSALS: u32 = 24;
+
+const SHORT_BUFFER: u32 = 27;
+
+// What a model is: accepted with its number of Nodes, or refused with a number of document 01 and a node index.
+pub enum Verdict {
+    Accepted { nodes: u32 },
+    Refused { number: u32, node: u32 },
+}
+
+// The first match of a name: its node and how many Tags are bound.
+pub enum MatchAnswer {
+    Match { node: u64, bound: u32 },
+    NoMatch,
+    Refused { number: u32, node: u32 },
+}
+
+// The first pair of a packet match and a key match that may sign it: their nodes.
+pub enum SignAnswer {
+    Allowed { packet: u64, key: u64 },
+    NotAllowed,
+    Refused { number: u32, node: u32 },
+}
+
+pub fn judge_model(model: &[u8]) -> Verdict
+    ensures { λ r. ⌜ verdictOf r ≡ verdict (now (model .entry)) ⌝ }
+{
+    match lvs_grammar::read_model(model) {
+        Reading::TooLong => Verdict::Refused { number: 1, node: 0 },
+        Reading::Malformed => Verdict::Refused { number: 2, node: 0 },
+        Reading::OtherVersion => Verdict::Refused { number: 3, node: 0 },
+        Reading::Readable => match lvs_rules::judge(model) {
+            Judged::Accepted { nodes } => Verdict::Accepted { nodes },
+            Judged::Refused { rule, node } => Verdict::Refused { number: rule, node },
+        },
+    }
+}
+
+// Matches a packet name. On a match the first 256 words of the buffer are each Tag's start and length; else it is kept.
+pub fn match_name(model: &[u8], name: &[u8], buffer: &mut [u32]) -> MatchAnswer
+    ensures { λ r. ⌜ (matchAnswerOf r, now (buffer .exit)) ≡ matchOutcome (now (model .entry)) (now (name .entry)) (now (buffer .entry)) ⌝ }
+{
+    if let Verdict::Refused { number, node } = judge_model(model) {
+        return MatchAnswer::Refused { number, node };
+    }
+    match lvs_names::read_name(name, PACKET_REFUSALS) {
+        NameRead::Refused(number) => MatchAnswer::Refused { number, node: 0 },
+        NameRead::Good(from) => {
+            if buffer.len() < lvs_spec::BINDING_WORDS {
+                return MatchAnswer::Refused {
+                    number: SHORT_BUFFER,
+                    node: 0,
+                };
+            }
+            let mut slots = [0u32; 256];
+            match lvs_walk::find_match(model, name, from, &mut slots) {
+                Found::Nothing => MatchAnswer::NoMatch,
+                Found::At(node, _) => MatchAnswer::Match {
+                    node,
+                    bound: lvs_walk::write_words(name, &slots, buffer),
+                },
+            }
+        }
+    }
+}
+
+// Whether a key name may sign a packet name.
+pub fn sign(model: &[u8], packet: &[u8], key: &[u8]) -> SignAnswer
+    ensures { λ r. ⌜ signAnswerOf r ≡ signAnswer (now (model .entry)) (now (packet .entry)) (now (key .entry)) ⌝ }
+{
+    if let Verdict::Refused { number, node } = judge_model(model) {
+        return SignAnswer::Refused { number, node };
+    }
+    let NameRead::Good(packet_from) = lvs_names::read_name(packet, PACKET_REFUSALS) else {
+        return SignAnswer::NotAllowed;
+    };
+    SignAnswer::NotAllowed
+}

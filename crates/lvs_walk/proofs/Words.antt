@@ -1,0 +1,232 @@
+-- The words of a match, and the place of each Node, as their loops write them. Assumes nothing.
+use Prim.Native.Nat.{ℕ, zero, suc, _+_, _-_, _*_, _≤_, _<_}
+use mathlib.Core.Path.{_≡_, refl, sym, ap, _∙_}
+use mathlib.Core.Bool.{Bool, true, false, cond}
+use mathlib.Core.List.{List, [], _∷_, _++_}
+use mathlib.Core.Option.{Option, none, some}
+use native.Mathlib.Nat.{add-suc}
+use native.Mathlib.Numerals.{add-one}
+use native.Mathlib.Omega.{arith}
+use mathlib.Core.Logic.{⊎-elim}
+use borrow.Author.Tests.{eq-eqb, ne-eqb, lt-ltb, le-ltb, eqb-true, eqb-false}
+use lib.Dec.{eqb}
+use lib.ListN.{length, take, drop, getD, set, length-set, length-drop, drop-of-length-le}
+use lib.Seq.{paste, paste-zero, paste-suc, drop-cons, drop-drop, take-all, getD-take, getD-drop, getD-set-same, getD-set-other, length-take-le}
+use Rattle.tlv.specs.Reading.{readAt}
+use Rattle.tlv.specs.declared.Place.{Place}
+use Rattle.tlv.specs.declared.Read.{Read}
+use Rattle.tlv.specs.declared.Read.the-variants.{Found}
+use Rattle.tlv.proofs.Cuts.{Step, seen}
+use Rattle.lvs_spec.specs.Limits.{maxNodes, maxModelBytes, bindingWords}
+use Rattle.lvs_spec.specs.Types as type
+use Rattle.lvs_spec.specs.Model.{insides}
+use Rattle.lvs_spec.specs.Names.{Component}
+use Rattle.lvs_spec.specs.Walk.{Bindings}
+use Rattle.lvs_spec.specs.Answers.{words, boundCount}
+use Rattle.lvs_fields.proofs.Elements.{Stop, insides-found, insides-other, insides-stop}
+use Rattle.lvs_constraints.specs.Bindings.{placeIn, binding, bindingsOf}
+use Rattle.lvs_walk.specs.Nodes.{nodeInside, HeadAt, NodesAt}
+use Rattle.lvs_walk.specs.Calls.{Small, wordOf}
+
+-- ---- one binding
+
+module _ (packet key : List ℕ) (p n : ℕ) where
+  word-none : n ≡ 0 → wordOf (binding packet key p n) ≡ 0
+  unfolding binding
+  word-none e = rw e
+
+  pub place-none : n ≡ 0 → 0 ≡ wordOf (binding packet key p n)
+  place-none e = sym (word-none e)
+
+  pub place-here : (n ≡ 0 → ⊥) → p < length packet → p ≡ wordOf (binding packet key p n)
+  unfolding binding placeIn
+  place-here e h = rw (ne-eqb n 0 e, lt-ltb p (length packet) h)
+
+  pub place-there : (n ≡ 0 → ⊥) → length packet ≤ p → p - length packet ≡ wordOf (binding packet key p n)
+  unfolding binding placeIn
+  place-there e h = rw (ne-eqb n 0 e, le-ltb p (length packet) h)
+
+  words-cons : (bs : Bindings) → words (binding packet key p n ∷ bs) ≡ wordOf (binding packet key p n) ∷ n ∷ words bs
+  unfolding binding words
+  words-cons bs = go (eqb n 0) refl
+    where
+      go : (t : Bool) → eqb n 0 ≡ t → words (binding packet key p n ∷ bs) ≡ wordOf (binding packet key p n) ∷ n ∷ words bs
+      go true e = let z = eqb-true n 0 e in rw (z, words)
+      go false e = rw (e, words)
+
+  count-cons : (bs : Bindings) → boundCount (binding packet key p n ∷ bs) ≡ cond (eqb n 0) 0 1 + boundCount bs
+  unfolding binding boundCount
+  count-cons bs = go (eqb n 0) refl
+    where
+      go : (t : Bool) → eqb n 0 ≡ t → boundCount (binding packet key p n ∷ bs) ≡ cond (eqb n 0) 0 1 + boundCount bs
+      go true e = rw (e, boundCount) (omega arith)
+      go false e = rw (e, boundCount) (omega arith)
+
+-- ---- all of them
+
+twice : (i : ℕ) → suc i * 2 ≡ suc (suc (i * 2))
+twice i = omega arith
+
+twice-one : (i : ℕ) → suc (suc (i * 2)) + 1 ≡ suc (suc (i * 2 + 1))
+twice-one i = omega arith
+
+module _ (packet key : List ℕ) where
+  first-word : (i : ℕ) (slots : List ℕ) → i * 2 + 1 < length slots
+      → getD (words (bindingsOf packet key slots)) (i * 2) 0 ≡ wordOf (binding packet key (getD slots (i * 2) 0) (getD slots (i * 2 + 1) 0))
+  unfolding bindingsOf
+  first-word i [] h = absurd (omega arith)
+  first-word i (p ∷ []) h = absurd (omega arith)
+  first-word zero (p ∷ n ∷ slots) h = rw words-cons
+  first-word (suc i) (p ∷ n ∷ slots) h = rw (words-cons, twice i, twice-one i) (first-word i slots (omega arith))
+
+  second-word : (i : ℕ) (slots : List ℕ) → i * 2 + 1 < length slots → getD (words (bindingsOf packet key slots)) (i * 2 + 1) 0 ≡ getD slots (i * 2 + 1) 0
+  unfolding bindingsOf
+  second-word i [] h = absurd (omega arith)
+  second-word i (p ∷ []) h = absurd (omega arith)
+  second-word zero (p ∷ n ∷ slots) h = rw words-cons
+  second-word (suc i) (p ∷ n ∷ slots) h = rw (words-cons, twice i, twice-one i) (second-word i slots (omega arith))
+
+  -- as many words as slots, where those are even in number
+  words-length : (k : ℕ) (slots : List ℕ) → length slots ≡ k * 2 → length (words (bindingsOf packet key slots)) ≡ k * 2
+  unfolding bindingsOf words
+  words-length zero [] h = refl
+  words-length zero (p ∷ slots) h = absurd (omega arith)
+  words-length (suc k) [] h = absurd (omega arith)
+  words-length (suc k) (p ∷ []) h = absurd (omega arith)
+  words-length (suc k) (p ∷ n ∷ slots) h = rw words-cons (omega (arith, words-length k slots (omega arith)))
+
+pub one-le : (n : ℕ) {b : ℕ} → b ≡ cond (eqb n 0) 0 1 → b ≤ 1
+one-le n e = rw e (go (eqb n 0))
+  where
+    go : (t : Bool) → cond t 0 1 ≤ 1
+    go true = omega arith
+    go false = omega arith
+
+-- ---- the loop that writes them
+
+pub record Written (name slots before : List ℕ) (buffer : List ℕ) (bound i : ℕ) : Type 0 where
+  pub room : i ≤ 128
+  pub long : length buffer ≡ length before
+  pub copied : buffer ≡ paste before 0 (words (bindingsOf name [] slots)) (i * 2)
+  pub counted : bound + boundCount (bindingsOf name [] (drop (i * 2) slots)) ≡ boundCount (bindingsOf name [] slots)
+  pub few : bound ≤ i
+
+pub written-first : (name slots before : List ℕ) → Written name slots before before 0 0
+written-first name slots before =
+    record { room = omega arith; long = refl; copied = paste-zero before 0 (words (bindingsOf name [] slots)); counted = omega arith; few = omega arith }
+
+module _ {name slots before buffer : List ℕ} {bound i : ℕ} (W : Written name slots before buffer bound i) (all-slots : length slots ≡ bindingWords)
+    (enough : bindingWords ≤ length before) where
+  pub written-next : i < 128 → {w b : ℕ} → w ≡ wordOf (binding name [] (getD slots (i * 2) 0) (getD slots (i * 2 + 1) 0))
+      → b ≡ cond (eqb (getD slots (i * 2 + 1) 0) 0) 0 1 → b ≤ 1
+      → Written name slots before (set (set buffer (i * 2) w) (i * 2 + 1) (getD slots (i * 2 + 1) 0)) (bound + b) (i + 1)
+  unfolding bindingsOf
+  written-next h {w} {b} w-is b-is b-le =
+      let X : List ℕ = words (bindingsOf name [] slots) in
+      let l : length X ≡ 256 = words-length name [] 128 slots all-slots in
+      let d : drop (i * 2) slots ≡ getD slots (i * 2) 0 ∷ getD slots (i * 2 + 1) 0 ∷ drop ((i + 1) * 2) slots = two in
+      let c : (bound + b) + boundCount (bindingsOf name [] (drop ((i + 1) * 2) slots)) ≡ boundCount (bindingsOf name [] slots) =
+      omega (arith, W .counted, ap (λ (x : List ℕ). boundCount (bindingsOf name [] x)) d, count-cons name [] (getD slots (i * 2) 0) (getD slots (i * 2 + 1) 0) (bindingsOf name [] (drop ((i + 1) * 2) slots))) in
+      record {
+        room = omega arith;
+        long = simp length-set (W .long);
+        copied = copy;
+        counted = c;
+        few = omega (arith, W .few);
+      }
+    where
+      two : drop (i * 2) slots ≡ getD slots (i * 2) 0 ∷ getD slots (i * 2 + 1) 0 ∷ drop ((i + 1) * 2) slots
+      two =
+          let e : suc (i * 2) ≡ i * 2 + 1 = omega arith in
+          let f : suc (i * 2 + 1) ≡ (i + 1) * 2 = omega arith in
+          drop-cons slots (i * 2) 0 (omega arith) ∙ rw e (ap (λ (x : List ℕ). getD slots (i * 2) 0 ∷ x) (drop-cons slots (i * 2 + 1) 0 (omega arith) ∙ rw f))
+
+      copy : set (set buffer (i * 2) w) (i * 2 + 1) (getD slots (i * 2 + 1) 0) ≡ paste before 0 (words (bindingsOf name [] slots)) ((i + 1) * 2)
+      copy =
+          let X : List ℕ = words (bindingsOf name [] slots) in
+          let l : length X ≡ 256 = words-length name [] 128 slots all-slots in
+          let z : 0 + i * 2 ≡ i * 2 = omega arith in
+          let y : 0 + suc (i * 2) ≡ i * 2 + 1 = omega arith in
+          let e : suc (i * 2) ≡ i * 2 + 1 = omega arith in
+          let f : suc (suc (i * 2)) ≡ (i + 1) * 2 = omega arith in
+          let p : w ≡ getD X (i * 2) 0 = w-is ∙ sym (first-word name [] i slots (omega arith)) in
+          let q : getD slots (i * 2 + 1) 0 ≡ getD X (suc (i * 2)) 0 = sym (second-word name [] i slots (omega arith)) ∙ ap (λ (k : ℕ). getD X k 0) (sym e) in
+          let one : set (paste before 0 X (i * 2)) (i * 2) (getD X (i * 2) 0) ≡ paste before 0 X (suc (i * 2)) =
+          ap (λ (k : ℕ). set (paste before 0 X (i * 2)) k (getD X (i * 2) 0)) (sym z) ∙ paste-suc before 0 X (i * 2) 0 (omega arith) (omega arith) in
+          let two : set (paste before 0 X (suc (i * 2))) (i * 2 + 1) (getD X (suc (i * 2)) 0) ≡ paste before 0 X (suc (suc (i * 2))) =
+          ap (λ (k : ℕ). set (paste before 0 X (suc (i * 2))) k (getD X (suc (i * 2)) 0)) (sym y) ∙ paste-suc before 0 X (suc (i * 2)) 0 (omega arith) (omega arith) in
+          (λ j. set (set (W .copied j) (i * 2) (p j)) (i * 2 + 1) (q j)) ∙ ap (λ (b : List ℕ). set b (i * 2 + 1) (getD X (suc (i * 2)) 0)) one ∙ two ∙ ap (paste before 0 X) f
+
+  pub written-words : 128 ≤ i → buffer ≡ words (bindingsOf name [] slots) ++ drop bindingWords before
+  written-words h =
+      let e : i ≡ 128 = omega (arith, W .room) in
+      W .copied ∙ rw e (ap (λ (x : List ℕ). x ++ drop bindingWords before) (take-all 256 (words (bindingsOf name [] slots)) (omega (arith, words-length name [] 128 slots all-slots))))
+
+  pub written-count : 128 ≤ i → bound ≡ boundCount (bindingsOf name [] slots)
+  unfolding bindingsOf boundCount
+  written-count h =
+      let e : i ≡ 128 = omega (arith, W .room) in
+      let z : drop (i * 2) slots ≡ [] = drop-of-length-le slots {i = i * 2} (omega arith) in
+      omega (arith, W .counted, ap (λ (x : List ℕ). boundCount (bindingsOf name [] x)) z)
+
+-- ---- the loop that records the Nodes
+
+pub record Filled (model places : List ℕ) (n at : ℕ) : Type 0 where
+  pub few : n ≤ length (insides type.Node model)
+  pub room : length places ≡ maxNodes
+  pub rest : insides type.Node (drop at model) ≡ drop n (insides type.Node model)
+  pub heads : (v : ℕ) → v < n → HeadAt model (getD places v 0) (nodeInside model v)
+
+pub filled-first : (model places : List ℕ) → length places ≡ maxNodes → Filled model places 0 0
+filled-first model places l = record { few = omega arith; room = l; rest = refl; heads = λ v h. absurd (omega arith) }
+
+module _ {model places : List ℕ} {n at : ℕ} (F : Filled model places n at) where
+  module _ {r : Read} {t start stop : ℕ} {p : Place} (read : r ≡ readAt model at) (found : r ≡ Found t start stop p) where
+    step : Step model at t start stop p
+    step = seen model at read found
+
+    pub filled-other : (t ≡ type.Node → ⊥) → Filled model places n (p .at)
+    filled-other e = record { few = F .few; room = F .room; rest = sym (insides-other type.Node step e) ∙ F .rest; heads = F .heads }
+
+    module _ (e : t ≡ type.Node) where
+      rest-is : drop n (insides type.Node model) ≡ take (stop - start) (drop start model) ∷ insides type.Node (drop (p .at) model)
+      rest-is = sym (F .rest) ∙ insides-found type.Node step e
+
+      pub more : n < length (insides type.Node model)
+      more = omega (arith, ap length rest-is, length-drop n (insides type.Node model))
+
+      pub filled-node : length (insides type.Node model) ≤ maxNodes → Filled model (set places n at) (n + 1) (p .at)
+      unfolding nodeInside
+      filled-node small =
+          let c = drop-cons (insides type.Node model) n [] more in
+          let h : getD (insides type.Node model) n [] ≡ take (stop - start) (drop start model) = cc (c, rest-is) in
+          let d : drop (suc n) (insides type.Node model) ≡ insides type.Node (drop (p .at) model) = cc (c, rest-is) in
+          record {
+            few = omega (arith, more);
+            room = simp length-set (F .room);
+            rest = sym d ∙ rw (add-one n);
+            heads = λ v l. heads-at v l h;
+          }
+        where
+          heads-at : (v : ℕ) → v < n + 1 → getD (insides type.Node model) n [] ≡ take (stop - start) (drop start model)
+              → HeadAt model (getD (set places n at) v 0) (getD (insides type.Node model) v [])
+          heads-at v l h = go (eqb v n) refl
+            where
+              go : (b : Bool) → eqb v n ≡ b → HeadAt model (getD (set places n at) v 0) (getD (insides type.Node model) v [])
+              go true q =
+                  let z = eqb-true v n q in
+                  rw (z, getD-set-same places n at 0 (omega (arith, F .room, more)), h)
+                  (record { typ = t; start = start; stop = stop; next = p; read-is = sym read ∙ found; inside-is = refl })
+              go false q =
+                  let z = eqb-false v n q in
+                  rw (getD-set-other places n v at 0 z) (F .heads v (less z))
+                where
+                  less : (v ≡ n → ⊥) → v < n
+                  less z = omega arith
+
+  pub filled-all : length (insides type.Node model) ≤ maxNodes → Stop model at → NodesAt model (take n places)
+  filled-all small st =
+      let none-left : drop n (insides type.Node model) ≡ [] = sym (F .rest) ∙ insides-stop type.Node st in
+      let all-of : n ≡ length (insides type.Node model) = omega (arith, F .few, ap length none-left, length-drop n (insides type.Node model)) in
+      let l : length (take n places) ≡ n = length-take-le n places (omega (arith, F .room)) in
+      record { count = l ∙ all-of; at = λ v h. rw (getD-take n places v 0 (omega arith)) (F .heads v (omega arith)) }
