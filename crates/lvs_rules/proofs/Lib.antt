@@ -1,0 +1,5 @@
+pub mod Least
+pub mod Parents
+pub mod Nodes
+pub mod Scan
+pub mod Verdict

@@ -1,0 +1,52 @@
+-- The Parent of a destination, looked up in the list of all Parents, is the one that document 01's rule 11 asks for. Assumes nothing.
+use mathlib.Core.Path.{_≡_, refl, sym, ap, _∙_}
+use mathlib.Core.Bool.{Bool, true, false, cond, not}
+use mathlib.Core.List.{List, [], _∷_, map}
+use mathlib.Core.Option.{Option, none, some}
+use Prim.Native.Nat.{ℕ, zero, suc, _≤_, _<_, min}
+use native.Mathlib.Nat.{not-suc-le-zero, min-eq-left, le-refl}
+use native.Mathlib.Omega.{arith}
+use borrow.Author.Tests.{ne-eqb, ltb-false, leb-false, leb-true}
+use lib.Dec.{leb, ltb, eqb}
+use lib.ListN.{length, getD, getElem?, length-map}
+use Rattle.lvs_spec.specs.Lists.{bind, is}
+use Rattle.lvs_spec.specs.Limits.{maxNodes}
+use Rattle.lvs_spec.specs.Model.{Model, Node}
+use Rattle.lvs_spec.specs.Verdict.{namesNone, notParent}
+use Rattle.lvs_rules.specs.Lowest.{noRule, broken, parentFrom, parentIndex, unnamed, destinationRule}
+
+module _ {i : ℕ} (small : i < maxNodes) where
+  same-parent : (o : Option ℕ) → eqb i (parentFrom o) ≡ is (eqb i) o
+  unfolding parentFrom
+  same-parent none = ne-eqb i maxNodes (λ e. omega arith)
+  same-parent (some p) = go (ltb p maxNodes) refl
+    where
+      go : (t : Bool) → ltb p maxNodes ≡ t → eqb i (cond t p maxNodes) ≡ eqb i p
+      go true q = refl
+      go false q =
+          let h : maxNodes ≤ p = ltb-false p maxNodes q in
+          ne-eqb i maxNodes (λ e. omega arith) ∙ sym (ne-eqb i p (λ e. omega arith))
+
+  parent-at : (ns : List Node) (d : ℕ) → d < length ns → eqb i (getD (map parentIndex ns) d 0) ≡ is (eqb i) (bind (getElem? ns d) (λ n. n .parent))
+  unfolding parentIndex
+  parent-at [] d h = absurd (not-suc-le-zero h)
+  parent-at (n ∷ ns) zero h = same-parent (n .parent)
+  parent-at (n ∷ ns) (suc d) h = parent-at ns d (omega arith)
+
+eight : (t : Bool) → min (broken 8 true) (broken 11 t) ≡ 8
+unfolding broken
+eight true = refl
+eight false = refl
+
+pub none-named : (m : Model) (d : ℕ) → unnamed (map parentIndex (m .nodes)) d ≡ namesNone m d
+unfolding unnamed namesNone
+none-named m d = rw (length-map (m .nodes) parentIndex)
+
+pub destination-is : (m : Model) {i : ℕ} → i < maxNodes → (d : ℕ)
+    → destinationRule (map parentIndex (m .nodes)) i d ≡ min (broken 8 (namesNone m d)) (broken 11 (notParent m i d))
+unfolding destinationRule namesNone notParent
+destination-is m {i} small d = rw (none-named m d) (go (leb (length (m .nodes)) d) refl)
+  where
+    go : (t : Bool) → leb (length (m .nodes)) d ≡ t → min (broken 8 t) (broken 11 (not (eqb i (getD (map parentIndex (m .nodes)) d 0)))) ≡ min (broken 8 t) (broken 11 (notParent m i d))
+    go true q = eight (not (eqb i (getD (map parentIndex (m .nodes)) d 0))) ∙ sym (eight (notParent m i d))
+    go false q = rw (parent-at small (m .nodes) d (leb-false _ _ q))
