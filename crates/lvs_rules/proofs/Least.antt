@@ -1,11 +1,12 @@
 -- Laws of `min`, `broken` and `leastOf`. Assumes nothing.
 use mathlib.Core.Path.{_≡_, refl, sym, ap, _∙_}
-use mathlib.Core.Bool.{Bool, true, false, cond, _||_}
+use mathlib.Core.Bool.{Bool, true, false, cond, _||_, not}
 use mathlib.Core.List.{List, [], _∷_, _++_, map}
 use Prim.Native.Nat.{ℕ, zero, suc, _+_, _≤_, _<_, min}
 use native.Mathlib.Nat.{le-antisymm, le-trans, le-refl, le-min, min-comm, min-le-left, min-le-right, min-eq-left, min-eq-right}
 use native.Mathlib.Omega.{arith}
-use lib.ListN.{length}
+use borrow.Author.Tests.{eq-eqb, ne-eqb, le-leb, lt-leb}
+use lib.Dec.{leb, eqb}
 use Rattle.lvs_spec.specs.Lists.{any, each}
 use Rattle.lvs_rules.specs.Lowest.{noRule, broken, leastOf}
 
@@ -35,13 +36,32 @@ unfolding broken
 broken-least r true h = le-refl r
 broken-least r false h = h
 
+-- ---- a rule by its test
+
+module _ (r a b : ℕ) where
+  pub equal : a ≡ b → noRule ≡ broken r (not (eqb a b))
+  unfolding broken
+  equal h = rw (eq-eqb a b h)
+
+  pub unequal : (a ≡ b → ⊥) → r ≡ broken r (not (eqb a b))
+  unfolding broken
+  unequal h = rw (ne-eqb a b h)
+
+  pub reached : a ≤ b → r ≡ broken r (leb a b)
+  unfolding broken
+  reached h = rw (le-leb a b h)
+
+  pub not-reached : b < a → noRule ≡ broken r (leb a b)
+  unfolding broken
+  not-reached h = rw (lt-leb a b h)
+
+-- ---- lists
+
 module _ {A : Type 0} where
   pub least-most : (f : A → ℕ) (xs : List A) → leastOf f xs ≤ noRule
   unfolding leastOf
   least-most f [] = le-refl _
   least-most f (x ∷ xs) = le-trans (min-le-right _ _) (least-most f xs)
-
-  -- ---- lists
 
   pub least-same : {f g : A → ℕ} → ((x : A) → f x ≡ g x) → (xs : List A) → leastOf f xs ≡ leastOf g xs
   unfolding leastOf

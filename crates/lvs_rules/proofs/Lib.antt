@@ -3,3 +3,4 @@ pub mod Parents
 pub mod Nodes
 pub mod Scan
 pub mod Verdict
+pub mod Loops

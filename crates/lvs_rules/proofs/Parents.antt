@@ -6,7 +6,7 @@ use mathlib.Core.Option.{Option, none, some}
 use Prim.Native.Nat.{ℕ, zero, suc, _≤_, _<_, min}
 use native.Mathlib.Nat.{not-suc-le-zero, min-eq-left, le-refl}
 use native.Mathlib.Omega.{arith}
-use borrow.Author.Tests.{ne-eqb, ltb-false, leb-false, leb-true}
+use borrow.Author.Tests.{eq-eqb, ne-eqb, le-leb, lt-leb, ltb-false, leb-false}
 use lib.Dec.{leb, ltb, eqb}
 use lib.ListN.{length, getD, getElem?, length-map}
 use Rattle.lvs_spec.specs.Lists.{bind, is}
@@ -37,6 +37,23 @@ eight : (t : Bool) → min (broken 8 true) (broken 11 t) ≡ 8
 unfolding broken
 eight true = refl
 eight false = refl
+
+-- ---- what the code finds at a destination
+
+module _ (parents : List ℕ) (i d : ℕ) where
+  pub names-none : length parents ≤ d → 8 ≡ destinationRule parents i d
+  unfolding destinationRule unnamed
+  names-none h = sym (rw (le-leb _ _ h) (eight (not (eqb i (getD parents d 0)))))
+
+  pub other-parent : d < length parents → (getD parents d 0 ≡ i → ⊥) → 11 ≡ destinationRule parents i d
+  unfolding destinationRule unnamed broken
+  other-parent h no′ = rw (lt-leb _ _ h, ne-eqb i _ (λ e. no′ (sym e)))
+
+  pub its-parent : d < length parents → getD parents d 0 ≡ i → noRule ≡ destinationRule parents i d
+  unfolding destinationRule unnamed broken
+  its-parent h e = rw (lt-leb _ _ h, eq-eqb i _ (sym e))
+
+-- ---- in a Model
 
 pub none-named : (m : Model) (d : ℕ) → unnamed (map parentIndex (m .nodes)) d ≡ namesNone m d
 unfolding unnamed namesNone

@@ -1,0 +1,16 @@
+-- `lvs_rules::signer_rule` meets its contract. Assumes nothing.
+use Rattle.lvs_rules.proofs.Least.{reached, not-reached}
+use Rattle.lvs_rules.specs.Lowest.{signerRule, unnamed}
+use Rattle.lvs_rules.proofs.signer_rule.Statement.{statement}
+use Rattle.lvs_rules.proofs.signer_rule.Tie as tie
+
+returns : tie.Need-returns
+unfolding signerRule unnamed
+returns c = reached 9 _ _ (c .if1 .taken)
+
+returns-2 : tie.Need-returns-2
+unfolding signerRule unnamed
+returns-2 c = not-reached 9 _ _ (c .if1 .left)
+
+pub signer-rule-spec : {M : Type 1} → statement M
+signer-rule-spec = tie.close (tie.spec returns returns-2)
