@@ -4,3 +4,4 @@ pub mod Nodes
 pub mod Scan
 pub mod Verdict
 pub mod Loops
+pub mod Items

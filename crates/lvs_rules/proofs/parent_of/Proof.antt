@@ -1,56 +1,49 @@
+-- `lvs_rules::parent_of` meets its contract. Assumes nothing.
+use native.Mathlib.Omega.{arith}
+use Prim.Native.Nat.{_-_}
+use mathlib.Core.Path.{refl}
+use lib.ListN.{length}
+use Rattle.tlv.proofs.Cuts.{seen}
+use Rattle.lvs_spec.specs.Model.{insideOf}
+use Rattle.lvs_spec.specs.Types as type
+use Rattle.lvs_fields.proofs.Elements.{Searching, search-on, stop-end, stop-malformed, inside-passed}
+use Rattle.lvs_rules.proofs.Loops.{parent-first, parent-none}
+use borrow.Author.Needs.{needs}
 use Rattle.lvs_rules.proofs.parent_of.Statement.{statement}
 use Rattle.lvs_rules.proofs.parent_of.Tie as tie
 
 abbrev Inv-loop : tie.InvT-loop
-Inv-loop node place₀ place = ?
+Inv-loop node place₀ place = Searching (insideOf type.Parent) node (place .at)
 
 abbrev μ-loop : tie.MeasureT-loop
-μ-loop node place₀ place = ?
+μ-loop node place₀ place = length node - place .at
 
 loop-holds : tie.Need-loop-holds Inv-loop μ-loop
-loop-holds c = ?
-
-element-requires : tie.Need-element-requires Inv-loop μ-loop
-element-requires c κs = ?
-
-enum-known-typ : tie.Need-enum-known-typ Inv-loop μ-loop
-enum-known-typ c = ?
+loop-holds c = record { same = refl }
 
 sub-number-of : tie.Need-sub-number-of Inv-loop μ-loop
-sub-number-of c = ?
+sub-number-of c = omega (arith, seen _ _ (c .before .before .before .before .element .ensures) (c .before .before .typ .given .1))
 
 part-number-of-start : tie.Need-part-number-of-start Inv-loop μ-loop
-part-number-of-start c = ?
+part-number-of-start c = omega (arith, seen _ _ (c .before .before .before .before .element .ensures) (c .before .before .typ .given .1))
 
 part-number-of-end : tie.Need-part-number-of-end Inv-loop μ-loop
-part-number-of-end c = ?
-
-number-of-requires : tie.Need-number-of-requires Inv-loop μ-loop
-number-of-requires c κs = ?
-
-index-of-requires : tie.Need-index-of-requires Inv-loop μ-loop
-index-of-requires c κs = ?
+part-number-of-end c = omega (arith, seen _ _ (c .before .before .before .before .element .ensures) (c .before .before .typ .given .1))
 
 returns : tie.Need-returns Inv-loop μ-loop
-returns c = ?
+returns c = parent-first (c .before .before .before .before .before .before .before .before .loop .inv) (seen _ _ (c .before .before .before .before .before .before .before .element .ensures) (c .before .before .before .before .before .typ .given .1)) (c .before .before .before .if1 .taken) (c .before .number-of .ensures) (c .index-of .ensures)
 
 loop-less : tie.Need-loop-less Inv-loop μ-loop
-loop-less c = ?
+loop-less c = omega (arith, seen _ _ (c .before .before .before .before .element .ensures) (c .before .before .typ .given .1))
 
 loop-again : tie.Need-loop-again Inv-loop μ-loop
-loop-again c = ?
-
-enum-told : tie.Need-enum-told Inv-loop μ-loop
-enum-told c = ?
+loop-again c = search-on (c .before .before .before .before .before .loop .inv) (seen _ _ (c .before .before .before .before .element .ensures) (c .before .before .typ .given .1)) (inside-passed _ (c .if1 .left))
 
 returns-2 : tie.Need-returns-2 Inv-loop μ-loop
-returns-2 c = ?
-
-enum-told-2 : tie.Need-enum-told-2 Inv-loop μ-loop
-enum-told-2 c = ?
+returns-2 c = parent-none (c .before .before .before .loop .inv) (stop-end _ _ (c .before .before .element .ensures) (c .enum-told .given .1))
 
 returns-3 : tie.Need-returns-3 Inv-loop μ-loop
-returns-3 c = ?
+returns-3 c = parent-none (c .before .before .before .loop .inv) (stop-malformed _ _ (c .before .before .element .ensures) (c .enum-told2 .given .1))
 
 pub parent-of-spec : {M : Type 1} → statement M
 parent-of-spec =
@@ -59,17 +52,17 @@ parent-of-spec =
     Inv-loop
     μ-loop
     loop-holds
-    element-requires
-    enum-known-typ
+    (λ c κs. search needs)
+    (λ c. search needs)
     sub-number-of
     part-number-of-start
     part-number-of-end
-    number-of-requires
-    index-of-requires
+    (λ c κs. search needs)
+    (λ c κs. search needs)
     returns
     loop-less
     loop-again
-    enum-told
+    (λ c. search needs)
     returns-2
-    enum-told-2
+    (λ c. search needs)
     returns-3)
