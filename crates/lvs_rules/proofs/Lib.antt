@@ -5,3 +5,4 @@ pub mod Scan
 pub mod Verdict
 pub mod Loops
 pub mod Items
+pub mod Whole
