@@ -1,12 +1,12 @@
 -- One step of a loop over the elements of a container, by what the reader answered at its place: `eachCut` from there on. Assumes nothing.
-use mathlib.Core.Path.{_≡_, refl, sym, ap, _∙_}
+use mathlib.Core.Path.{_≡_, sym, ap, _∙_}
 use mathlib.Core.Logic.{_⊎_, inl, inr, ⊎-elim}
 use mathlib.Core.List.{List, [], _∷_, _++_}
 use mathlib.Core.Option.{none, some}
 use Prim.Native.Nat.{ℕ, _-_}
 use borrow.Author.Tests.{eq-eqb, ne-eqb}
 use lib.ListN.{take, drop}
-use Rattle.tlv.specs.Element.{Element, Cuts, done, broken, next, cuts}
+use Rattle.tlv.specs.Element.{Element, done, broken, cuts}
 use Rattle.tlv.specs.declared.Place.{Place}
 use Rattle.tlv.specs.declared.Read.{Read}
 use Rattle.tlv.specs.declared.Read.the-variants.{End, Malformed}

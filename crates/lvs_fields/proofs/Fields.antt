@@ -2,10 +2,10 @@
 use mathlib.Core.Path.{_≡_, refl, sym, ap, _∙_}
 use mathlib.Core.List.{List, [], _∷_}
 use mathlib.Core.Option.{Option, none, some}
-use mathlib.Core.Bool.{Bool, true, false}
-use Prim.Native.Nat.{ℕ, _-_, _≤_}
+use mathlib.Core.Bool.{true, false}
+use Prim.Native.Nat.{ℕ, _-_}
 use native.Mathlib.Omega.{arith}
-use lib.ListN.{length, take, drop}
+use lib.ListN.{take, drop}
 use Rattle.tlv.specs.Bytes.{sameBytes}
 use Rattle.tlv.specs.Number.{integer}
 use Rattle.tlv.specs.Reading.{integerOf, integerFrom}
@@ -17,7 +17,6 @@ use Rattle.lvs_spec.specs.Lists.{first, firstOr}
 use Rattle.lvs_spec.specs.Model.{insideOf, insides, theInside, numberOf, theInteger}
 use Rattle.lvs_spec.specs.Verdict.{Function as Known, functionIn, functionNames, functionOf}
 use Rattle.lvs_fields.specs.Fields.{InsideOf, functionRead}
-use Rattle.lvs_fields.specs.declared.Function.{Function}
 use Rattle.lvs_fields.specs.declared.Function.the-variants.{Eq, EqType, IsValidId, IsValidYear, Unknown}
 use Rattle.lvs_fields.specs.declared.Part.{Part}
 use Rattle.lvs_fields.proofs.Elements.{Stop, Searching, search-here, search-none, inside-taken}

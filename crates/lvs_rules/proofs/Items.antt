@@ -1,11 +1,10 @@
 -- The lowest rule that an element breaks, from its own fields and from the elements that it holds. Assumes nothing.
 use mathlib.Core.Path.{_≡_, refl, sym, ap, _∙_}
 use mathlib.Core.Bool.{Bool, true, false, not}
-use mathlib.Core.List.{List, [], _∷_, _++_, map}
+use mathlib.Core.List.{List, _++_}
 use mathlib.Core.Option.{Option, none, some}
-use Prim.Native.Nat.{ℕ, _≤_, min}
+use Prim.Native.Nat.{ℕ, min}
 use native.Mathlib.Nat.{min-eq-right}
-use native.Mathlib.Omega.{arith}
 use lib.Dec.{eqb}
 use lib.ListN.{length, length-map}
 use Rattle.tlv.specs.Element.{Element, Cuts, done, broken as torn, next, cuts}
@@ -20,7 +19,7 @@ use Rattle.lvs_rules.specs.Lowest.{noRule, broken, leastOf, tagRule, arg
 use Rattle.lvs_rules.specs.Sorts.{typeOf, itemRule}
 use Rattle.lvs_rules.specs.declared.Sort.{Sort}
 use Rattle.lvs_rules.specs.declared.Sort.the-variants as sort
-use Rattle.lvs_rules.proofs.Least.{min-pairs, least-most, least-append, least-map, least-same}
+use Rattle.lvs_rules.proofs.Least.{min-pairs, least-most, least-append, least-map}
 
 -- ---- a call's function and number of arguments
 

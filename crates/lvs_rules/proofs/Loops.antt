@@ -3,23 +3,23 @@ use mathlib.Core.Path.{_≡_, refl, sym, ap, _∙_}
 use mathlib.Core.Logic.{_⊎_, inl, inr, ⊎-elim}
 use mathlib.Core.Bool.{Bool, true, false, cond}
 use mathlib.Core.List.{List, [], _∷_, _++_, map, append-assoc, append-nil}
-use mathlib.Core.Option.{Option, none, some}
-use Prim.Native.Nat.{ℕ, suc, _+_, _-_, _≤_, _<_, min}
+use mathlib.Core.Option.{none, some}
+use Prim.Native.Nat.{ℕ, _+_, _-_, _≤_, _<_, min}
 use native.Mathlib.Nat.{min-eq-left, min-eq-right, le-refl}
 use native.Mathlib.Numerals.{add-one}
 use native.Mathlib.Omega.{arith}
 use borrow.Author.Tests.{ne-eqb, lt-ltb, le-ltb, ltb-true, ltb-false}
-use lib.Dec.{ltb, eqb}
-use lib.ListN.{length, take, drop, set, length-append, length-map, length-set}
+use lib.Dec.{ltb}
+use lib.ListN.{length, take, drop, set, length-append, length-set}
 use lib.Seq.{take-suc-set}
 use Rattle.tlv.specs.Element.{Element, cuts}
 use Rattle.tlv.specs.declared.Place.{Place}
 use Rattle.tlv.proofs.Cuts.{Step}
-use Rattle.lvs_spec.specs.Lists.{first, firstOr}
+use Rattle.lvs_spec.specs.Lists.{first}
 use Rattle.lvs_spec.specs.Limits.{maxNodes}
 use Rattle.lvs_spec.specs.Types as type
-use Rattle.lvs_spec.specs.Model.{Argument, eachCut, insideOf, insides, componentOf, numberOf, integers, argumentFrom, argumentOf, termFrom, optionOf, nodeOf}
-use Rattle.lvs_fields.proofs.Elements.{Stop, Searching, search-here, search-on, search-none, each-found, each-stop, inside-taken, inside-passed, insides-found, insides-other, insides-stop}
+use Rattle.lvs_spec.specs.Model.{Argument, eachCut, insideOf, insides, componentOf, numberOf, integers, argumentFrom, argumentOf, termFrom, nodeOf}
+use Rattle.lvs_fields.proofs.Elements.{Stop, Searching, search-here, search-on, search-none, each-found, each-stop, inside-taken, insides-found, insides-other, insides-stop}
 use Rattle.lvs_fields.proofs.Fields.{first-or, or-default}
 use Rattle.lvs_rules.specs.Lowest.{noRule, leastOf, tagRule, argumentRule, parentFrom, parentIndex}
 use Rattle.lvs_rules.specs.Faults.{earlier, lowestFrom, lowest}

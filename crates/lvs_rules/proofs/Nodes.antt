@@ -1,18 +1,18 @@
 -- The lowest rule that a Node breaks, by the tests of document 01's rules 5 to 12. Assumes nothing.
 use mathlib.Core.Path.{_≡_, refl, sym, ap, _∙_}
-use mathlib.Core.Bool.{Bool, true, false, cond, not}
-use mathlib.Core.List.{List, [], _∷_, _++_, map}
-use Prim.Native.Nat.{ℕ, zero, suc, _+_, _≤_, _<_, min}
-use native.Mathlib.Nat.{le-refl, min-comm, min-eq-left, min-eq-right}
+use mathlib.Core.Bool.{not}
+use mathlib.Core.List.{List, map}
+use Prim.Native.Nat.{ℕ, _≤_, _<_, min}
+use native.Mathlib.Nat.{min-comm, min-eq-left}
 use native.Mathlib.Omega.{arith}
-use lib.Dec.{leb, eqb}
+use lib.Dec.{eqb}
 use lib.ListN.{length}
 use Rattle.lvs_spec.specs.Lists.{any, each}
 use Rattle.lvs_spec.specs.Limits.{maxNodes}
 use Rattle.lvs_spec.specs.Model.{Model, Node, ValueEdge, PatternEdge, Constraint, ConstraintOption, Term, Call, Argument}
 use Rattle.lvs_spec.specs.Verdict.{destinations, options, terms, callsIn, calls, argumentTags, termTags, nodeTags, namesNone, badTag, notParent, badCall}
-use Rattle.lvs_rules.specs.Lowest.{noRule, broken, leastOf, tagRule, argumentRule, callRule, termRule, optionRule, constraintRule, parentIndex, unnamed, signerRule, destinationRule, valueEdgeRule, patternEdgeRule, nodeRule}
-use Rattle.lvs_rules.proofs.Least.{min-assoc, min-swap, broken-most, least-most, least-same, least-append, least-both, least-any, least-map, least-each}
+use Rattle.lvs_rules.specs.Lowest.{noRule, broken, leastOf, tagRule, argumentRule, callRule, termRule, optionRule, constraintRule, parentIndex, signerRule, destinationRule, valueEdgeRule, patternEdgeRule, nodeRule}
+use Rattle.lvs_rules.proofs.Least.{min-assoc, min-swap, broken-most, least-same, least-append, least-both, least-any, least-map, least-each}
 use Rattle.lvs_rules.proofs.Parents.{none-named, destination-is}
 
 tag-most : (t : ℕ) → tagRule t ≤ noRule

@@ -3,16 +3,15 @@ use mathlib.Core.Path.{_≡_, refl, sym, ap, _∙_}
 use mathlib.Core.Bool.{Bool, true, false, cond, _||_, not}
 use mathlib.Core.List.{List, [], _∷_, _++_, map}
 use mathlib.Core.Option.{Option, none, some}
-use Prim.Native.Nat.{ℕ, zero, suc, _+_, _≤_, _<_, min}
-use native.Mathlib.Nat.{min-eq-left, le-refl}
+use Prim.Native.Nat.{ℕ, suc, _+_, _≤_, _<_, min}
 use native.Mathlib.Omega.{arith}
-use borrow.Author.Tests.{lt-ltb, le-ltb, ltb-true}
+use borrow.Author.Tests.{lt-ltb, le-ltb}
 use lib.Dec.{ltb, eqb}
 use lib.ListN.{length}
 use Rattle.lvs_spec.specs.Lists.{any, each, isSome}
 use Rattle.lvs_spec.specs.Limits.{maxNodes}
 use Rattle.lvs_spec.specs.Model.{Model, Node, Symbol}
-use Rattle.lvs_spec.specs.Verdict.{Verdict, accepted, refused, decide, rules, judge, somewhere, firstFault, tags, nodeTags, badTag, namesNone, notParent, badCall, destinations, options, calls}
+use Rattle.lvs_spec.specs.Verdict.{refused, decide, rules, judge, somewhere, firstFault, tags, nodeTags, badTag, namesNone, notParent, badCall, destinations, options, calls}
 use Rattle.lvs_rules.specs.Lowest.{noRule, broken, leastOf, tagRule, symbolRule, nodeRule, parentIndex}
 use Rattle.lvs_rules.specs.Faults.{earlier, lowestFrom, lowest, verdictOf}
 use Rattle.lvs_rules.specs.declared.Fault.{Fault}

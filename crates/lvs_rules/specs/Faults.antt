@@ -1,6 +1,6 @@
 -- The lowest rule that Nodes break, with the first Node that breaks it; and what the answers say.
 use Prim.Native.Nat.{ℕ, suc}
-use mathlib.Core.Bool.{Bool, true, false, cond}
+use mathlib.Core.Bool.{cond}
 use mathlib.Core.List.{List, [], _∷_}
 use lib.Dec.{ltb, eqb}
 use Rattle.lvs_spec.specs.Verdict.{Verdict, accepted, refused}

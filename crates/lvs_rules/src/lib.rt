@@ -11,43 +11,32 @@ ghost use Rattle.lvs_spec.specs.Limits.{maxNodes};
 ghost use Rattle.lvs_spec.specs.Model.{modelOf, nodeOf, callOf, optionOf, argumentOf, insides, theInteger};
 ghost use Rattle.lvs_spec.specs.Types as type;
 ghost use Rattle.lvs_spec.specs.Verdict.{badCall, judge};
-ghost use Rattle.lvs_rules.specs.Lowest.{broken, leastOf, tagRule, argumentRule, destinationRule, signerRule, nodeRule, parentFrom, parentIndex, unnamed};
+ghost use Rattle.lvs_rules.specs.Lowest.{broken, leastOf, tagRule, argumentRule, destinationRule, signerRule, nodeRule, parentFrom, parentIndex};
 ghost use Rattle.lvs_rules.specs.Sorts.{typeOf, itemRule};
 ghost use Rattle.lvs_rules.specs.Faults.{earlier, lowest, verdictOf, judgedOf};
+use lvs_fields::CONSTRAINT;
+use lvs_fields::CONSTRAINT_OPTION;
+use lvs_fields::FN_ID;
 use lvs_fields::Function;
+use lvs_fields::NODE;
+use lvs_fields::NODE_ID;
+use lvs_fields::PARENT;
+use lvs_fields::PATTERN_EDGE;
+use lvs_fields::SIGN_CONSTRAINT;
+use lvs_fields::TAG;
+use lvs_fields::TAG_SYMBOL;
+use lvs_fields::USER_FN_ARG;
+use lvs_fields::USER_FN_CALL;
+use lvs_fields::VALUE;
+use lvs_fields::VALUE_EDGE;
 use tlv::Place;
 use tlv::Read;
 
-const VALUE: u32 = 0x21;
-
-const TAG: u32 = 0x23;
-
-const NODE_ID: u32 = 0x25;
-
-const FN_ID: u32 = 0x27;
-
-const USER_FN_CALL: u32 = 0x31;
-
-const USER_FN_ARG: u32 = 0x33;
-
-const CONSTRAINT_OPTION: u32 = 0x41;
-
-const CONSTRAINT: u32 = 0x43;
-
-const VALUE_EDGE: u32 = 0x51;
-
-const PATTERN_EDGE: u32 = 0x53;
-
-const SIGN_CONSTRAINT: u32 = 0x55;
-
-const PARENT: u32 = 0x57;
-
-const NODE: u32 = 0x63;
-
-const TAG_SYMBOL: u32 = 0x67;
-
 // Above every rule: none is broken.
 const NO_RULE: u32 = 13;
+
+// No Node's index: the Parent of a Node that has none.
+const NO_NODE: u32 = lvs_spec::MAX_NODES as u32;
 
 pub enum Judged {
     Accepted { nodes: u32 },
@@ -113,7 +102,7 @@ fn conclude(fault: Fault, whole: u32, nodes: u32) -> Judged
 }
 
 // Each Node's Parent, by the Node's index.
-fn parents_of(model: &[u8]) -> [u32; 256]
+fn parents_of(model: &[u8]) -> [u32; lvs_spec::MAX_NODES]
     requires { ⌜ length (insides type.Node (now model)) ≤ maxNodes ⌝ }
     ensures { λ r.
         ⌜
@@ -121,7 +110,7 @@ fn parents_of(model: &[u8]) -> [u32; 256]
         map (λ b. parentIndex (nodeOf b)) (insides type.Node (now (model .entry)))
         ⌝ }
 {
-    let mut parents = [0u32; 256];
+    let mut parents = [0u32; lvs_spec::MAX_NODES];
     let mut n = 0;
     let mut place = Place { at: 0 };
     loop {
@@ -167,10 +156,10 @@ fn parent_of(node: &[u8]) -> u32
                 }
             }
             Read::End => {
-                return 256;
+                return NO_NODE;
             }
             Read::Malformed => {
-                return 256;
+                return NO_NODE;
             }
         }
     }
@@ -179,7 +168,11 @@ fn parent_of(node: &[u8]) -> u32
 fn index_of(p: u64) -> u32
     ensures { λ r. ⌜ r ≡ parentFrom (some p) ⌝ }
 {
-    if p < 256 { p as u32 } else { 256 }
+    if p < lvs_spec::MAX_NODES as u64 {
+        p as u32
+    } else {
+        NO_NODE
+    }
 }
 
 // The lowest rule that a Node breaks, with the first Node that breaks it.
