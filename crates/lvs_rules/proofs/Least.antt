@@ -4,10 +4,12 @@ use mathlib.Core.Bool.{Bool, true, false, cond, _||_, not}
 use mathlib.Core.List.{List, [], _∷_, _++_, map}
 use Prim.Native.Nat.{ℕ, _+_, _≤_, _<_, min}
 use native.Mathlib.Nat.{le-antisymm, le-trans, le-refl, le-min, min-comm, min-le-left, min-le-right, min-eq-left, min-eq-right}
-use borrow.Author.Tests.{eq-eqb, ne-eqb, le-leb, lt-leb}
+use borrow.Author.Tests.{eq-eqb, ne-eqb, le-leb, lt-leb, lt-ltb, le-ltb}
 use lib.Dec.{leb, eqb}
 use Rattle.lvs_spec.specs.Lists.{any, each}
-use Rattle.lvs_rules.specs.Lowest.{noRule, broken, leastOf}
+use Rattle.lvs_spec.specs.Limits.{maxTag}
+use Rattle.lvs_spec.specs.Verdict.{badTag}
+use Rattle.lvs_rules.specs.Lowest.{noRule, broken, leastOf, tagRule}
 
 -- ---- min
 
@@ -53,6 +55,19 @@ module _ (r a b : ℕ) where
   pub not-reached : b < a → noRule ≡ broken r (leb a b)
   unfolding broken
   not-reached h = rw (lt-leb a b h)
+
+module _ (t : ℕ) where
+  pub tag-zero : t ≡ 0 → 5 ≡ tagRule t
+  unfolding tagRule badTag broken
+  tag-zero h = rw (eq-eqb t 0 h)
+
+  pub tag-high : (t ≡ 0 → ⊥) → maxTag < t → 5 ≡ tagRule t
+  unfolding tagRule badTag broken
+  tag-high no′ h = rw (ne-eqb t 0 no′, lt-ltb maxTag t h)
+
+  pub tag-fine : (t ≡ 0 → ⊥) → t ≤ maxTag → noRule ≡ tagRule t
+  unfolding tagRule badTag broken
+  tag-fine no′ h = rw (ne-eqb t 0 no′, le-ltb maxTag t h)
 
 -- ---- lists
 
