@@ -2,10 +2,10 @@
 use mathlib.Core.Path.{_≡_, refl, sym, ap, _∙_}
 use mathlib.Core.List.{List, [], _∷_}
 use mathlib.Core.Option.{Option, none, some}
-use mathlib.Core.Bool.{Bool, true, false}
-use Prim.Native.Nat.{ℕ, _-_, _≤_}
+use mathlib.Core.Bool.{true, false}
+use Prim.Native.Nat.{ℕ, _-_}
 use native.Mathlib.Omega.{arith}
-use lib.ListN.{length, take, drop}
+use lib.ListN.{take, drop}
 use Rattle.tlv.specs.Bytes.{sameBytes}
 use Rattle.tlv.specs.Number.{integer}
 use Rattle.tlv.specs.Reading.{integerOf, integerFrom}
@@ -13,32 +13,37 @@ use Rattle.tlv.specs.declared.Place.{Place}
 use Rattle.tlv.specs.declared.IntegerRead.{IntegerRead}
 use Rattle.tlv.specs.declared.IntegerRead.the-variants.{Integer, OtherSize}
 use Rattle.tlv.proofs.Cuts.{Step}
-use Rattle.lvs_spec.specs.Lists.{firstOr}
-use Rattle.lvs_spec.specs.Model.{insides, theInside, numberOf, theInteger}
+use Rattle.lvs_spec.specs.Lists.{first, firstOr}
+use Rattle.lvs_spec.specs.Model.{insideOf, insides, theInside, numberOf, theInteger}
 use Rattle.lvs_spec.specs.Verdict.{Function as Known, functionIn, functionNames, functionOf}
 use Rattle.lvs_fields.specs.Fields.{InsideOf, functionRead}
-use Rattle.lvs_fields.specs.declared.Function.{Function}
 use Rattle.lvs_fields.specs.declared.Function.the-variants.{Eq, EqType, IsValidId, IsValidYear, Unknown}
 use Rattle.lvs_fields.specs.declared.Part.{Part}
-use Rattle.lvs_fields.proofs.Elements.{Stop, insides-found, insides-other, insides-stop}
+use Rattle.lvs_fields.proofs.Elements.{Stop, Searching, search-here, search-none, inside-taken}
 
 -- ---- the first inside
 
-module _ {k : ℕ} {s : List ℕ} {at : ℕ} where
-  pub first-here : {t start stop : ℕ} {n : Place} → Step s at t start stop n → t ≡ k → theInside k (drop at s) ≡ theInside k s
-      → InsideOf s k (record { start = start; end = stop })
-  unfolding theInside
-  first-here st e inv =
-      record { order = st .order; within = st .within; is = sym (ap (firstOr []) (insides-found k st e)) ∙ inv }
+pub first-or : {A : Type 0} (d : A) (xs : List A) {x : A} → first xs ≡ some x → firstOr d xs ≡ x
+first-or d [] e = let z : _≡_ {A = ℕ} 0 1 = cc in absurd (omega arith)
+first-or d (y ∷ ys) e = cc
 
-  pub first-later : {t start stop : ℕ} {n : Place} → Step s at t start stop n → (t ≡ k → ⊥) → theInside k (drop at s) ≡ theInside k s
-      → theInside k (drop (n .at) s) ≡ theInside k s
-  unfolding theInside
-  first-later st no′ inv = sym (ap (firstOr []) (insides-other k st no′)) ∙ inv
+pub or-default : {A : Type 0} (d : A) (xs : List A) → first xs ≡ none → firstOr d xs ≡ d
+or-default d [] e = refl
+or-default d (y ∷ ys) e = let z : _≡_ {A = ℕ} 0 1 = cc in absurd (omega arith)
 
-  pub first-none : Stop s at → theInside k (drop at s) ≡ theInside k s → InsideOf s k (record { start = 0; end = 0 })
-  unfolding theInside
-  first-none st inv = record { order = omega arith; within = omega arith; is = sym (ap (firstOr []) (insides-stop k st)) ∙ inv }
+module _ {k : ℕ} {s : List ℕ} {at : ℕ} (inv : Searching (insideOf k) s at) where
+  pub inside-here : {t start stop : ℕ} {n : Place} → Step s at t start stop n → t ≡ k → InsideOf s k (record { start = start; end = stop })
+  unfolding theInside insides
+  inside-here st e =
+      record {
+        order = st .order;
+        within = st .within;
+        is = sym (first-or [] (insides k s) (search-here inv st (inside-taken _ e)));
+      }
+
+  pub inside-none : Stop s at → InsideOf s k (record { start = 0; end = 0 })
+  unfolding theInside insides
+  inside-none st = record { order = omega arith; within = omega arith; is = sym (or-default [] (insides k s) (search-none inv st)) }
 
 -- ---- an integer
 

@@ -1,0 +1,8 @@
+pub mod Least
+pub mod Parents
+pub mod Nodes
+pub mod Scan
+pub mod Verdict
+pub mod Loops
+pub mod Items
+pub mod Whole

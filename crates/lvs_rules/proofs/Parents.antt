@@ -1,0 +1,69 @@
+-- The Parent of a destination, looked up in the list of all Parents, is the one that document 01's rule 11 asks for. Assumes nothing.
+use mathlib.Core.Path.{_≡_, refl, sym, _∙_}
+use mathlib.Core.Bool.{Bool, true, false, cond, not}
+use mathlib.Core.List.{List, [], _∷_, map}
+use mathlib.Core.Option.{Option, none, some}
+use Prim.Native.Nat.{ℕ, zero, suc, _≤_, _<_, min}
+use native.Mathlib.Nat.{not-suc-le-zero}
+use native.Mathlib.Omega.{arith}
+use borrow.Author.Tests.{eq-eqb, ne-eqb, le-leb, lt-leb, ltb-false, leb-false}
+use lib.Dec.{leb, ltb, eqb}
+use lib.ListN.{length, getD, getElem?, length-map}
+use Rattle.lvs_spec.specs.Lists.{bind, is}
+use Rattle.lvs_spec.specs.Limits.{maxNodes}
+use Rattle.lvs_spec.specs.Model.{Model, Node}
+use Rattle.lvs_spec.specs.Verdict.{namesNone, notParent}
+use Rattle.lvs_rules.specs.Lowest.{noRule, broken, parentFrom, parentIndex, unnamed, destinationRule}
+
+module _ {i : ℕ} (small : i < maxNodes) where
+  same-parent : (o : Option ℕ) → eqb i (parentFrom o) ≡ is (eqb i) o
+  unfolding parentFrom
+  same-parent none = ne-eqb i maxNodes (λ e. omega arith)
+  same-parent (some p) = go (ltb p maxNodes) refl
+    where
+      go : (t : Bool) → ltb p maxNodes ≡ t → eqb i (cond t p maxNodes) ≡ eqb i p
+      go true q = refl
+      go false q =
+          let h : maxNodes ≤ p = ltb-false p maxNodes q in
+          ne-eqb i maxNodes (λ e. omega arith) ∙ sym (ne-eqb i p (λ e. omega arith))
+
+  parent-at : (ns : List Node) (d : ℕ) → d < length ns → eqb i (getD (map parentIndex ns) d 0) ≡ is (eqb i) (bind (getElem? ns d) (λ n. n .parent))
+  unfolding parentIndex
+  parent-at [] d h = absurd (not-suc-le-zero h)
+  parent-at (n ∷ ns) zero h = same-parent (n .parent)
+  parent-at (n ∷ ns) (suc d) h = parent-at ns d (omega arith)
+
+eight : (t : Bool) → min (broken 8 true) (broken 11 t) ≡ 8
+unfolding broken
+eight true = refl
+eight false = refl
+
+-- ---- what the code finds at a destination
+
+module _ (parents : List ℕ) (i d : ℕ) where
+  pub names-none : length parents ≤ d → 8 ≡ destinationRule parents i d
+  unfolding destinationRule unnamed
+  names-none h = sym (rw (le-leb _ _ h) (eight (not (eqb i (getD parents d 0)))))
+
+  pub other-parent : d < length parents → (getD parents d 0 ≡ i → ⊥) → 11 ≡ destinationRule parents i d
+  unfolding destinationRule unnamed broken
+  other-parent h no′ = rw (lt-leb _ _ h, ne-eqb i _ (λ e. no′ (sym e)))
+
+  pub its-parent : d < length parents → getD parents d 0 ≡ i → noRule ≡ destinationRule parents i d
+  unfolding destinationRule unnamed broken
+  its-parent h e = rw (lt-leb _ _ h, eq-eqb i _ (sym e))
+
+-- ---- in a Model
+
+pub none-named : (m : Model) (d : ℕ) → unnamed (map parentIndex (m .nodes)) d ≡ namesNone m d
+unfolding unnamed namesNone
+none-named m d = rw (length-map (m .nodes) parentIndex)
+
+pub destination-is : (m : Model) {i : ℕ} → i < maxNodes → (d : ℕ)
+    → destinationRule (map parentIndex (m .nodes)) i d ≡ min (broken 8 (namesNone m d)) (broken 11 (notParent m i d))
+unfolding destinationRule namesNone notParent
+destination-is m {i} small d = rw (none-named m d) (go (leb (length (m .nodes)) d) refl)
+  where
+    go : (t : Bool) → leb (length (m .nodes)) d ≡ t → min (broken 8 t) (broken 11 (not (eqb i (getD (map parentIndex (m .nodes)) d 0)))) ≡ min (broken 8 t) (broken 11 (notParent m i d))
+    go true q = eight (not (eqb i (getD (map parentIndex (m .nodes)) d 0))) ∙ sym (eight (notParent m i d))
+    go false q = rw (parent-at small (m .nodes) d (leb-false _ _ q))

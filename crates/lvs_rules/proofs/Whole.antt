@@ -1,0 +1,56 @@
+-- The verdict on the bytes of a model, from what the code finds in them. Assumes nothing.
+use mathlib.Core.Path.{_≡_, sym, _∙_}
+use mathlib.Core.List.{List, map, map-map}
+use Prim.Native.Nat.{ℕ, _≤_, _<_, min}
+use native.Mathlib.Omega.{arith}
+use lib.Dec.{leb}
+use lib.ListN.{length, take, length-map}
+use Rattle.lvs_spec.specs.Limits.{maxNodes}
+use Rattle.lvs_spec.specs.Types as type
+use Rattle.lvs_spec.specs.Model.{insides, theInteger, nodeOf, symbolOf, modelOf}
+use Rattle.lvs_spec.specs.Verdict.{Verdict, refused, judge, namesNone}
+use Rattle.lvs_rules.specs.Lowest.{broken, leastOf, nodeRule, parentIndex, symbolRule}
+use Rattle.lvs_rules.specs.Sorts.{typeOf, itemRule}
+use Rattle.lvs_rules.specs.Faults.{lowest, verdictOf}
+use Rattle.lvs_rules.specs.declared.Fault.{Fault}
+use Rattle.lvs_rules.specs.declared.Sort.the-variants as sort
+use Rattle.lvs_rules.proofs.Least.{least-map}
+use Rattle.lvs_rules.proofs.Scan.{lowest-map}
+use Rattle.lvs_rules.proofs.Verdict.{judge-few, judge-many}
+
+module _ (s : List ℕ) {n : ℕ} (count : n ≡ length (insides type.Node s)) where
+  node-count : length (modelOf s .nodes) ≡ n
+  unfolding modelOf
+  node-count = length-map (insides type.Node s) nodeOf ∙ sym count
+
+  pub too-many : maxNodes < n → refused 4 0 ≡ judge (modelOf s)
+  too-many h = let e = node-count in sym (judge-many (modelOf s) (omega arith))
+
+  module _ (all : List ℕ) (filled : take (length (insides type.Node s)) all ≡ map (λ b. parentIndex (nodeOf b)) (insides type.Node s)) where
+    pub as-many : n ≡ length (take n all)
+    as-many = rw (count, filled, length-map)
+
+    all-parents : map parentIndex (modelOf s .nodes) ≡ take n all
+    unfolding modelOf
+    all-parents = map-map parentIndex nodeOf (insides type.Node s) ∙ sym filled ∙ rw count
+
+    nodes-fault : lowest (nodeRule (take n all)) (modelOf s .nodes) ≡ lowest (λ i b. nodeRule (take n all) i (nodeOf b)) (insides type.Node s)
+    unfolding modelOf lowest
+    nodes-fault = rw (lowest-map (nodeRule (take n all)) nodeOf 0 (insides type.Node s))
+
+    symbols-rule : leastOf symbolRule (modelOf s .symbols) ≡ leastOf (itemRule (take n all) 0 sort.Symbol) (insides (typeOf sort.Symbol) s)
+    unfolding modelOf itemRule typeOf
+    symbols-rule = least-map symbolRule symbolOf (insides type.TagSymbol s)
+
+    start-none : namesNone (modelOf s) (modelOf s .start) ≡ leb n (theInteger type.NodeId s)
+    unfolding modelOf namesNone
+    start-none = rw node-count
+
+    pub found : {fault : Fault} {symbols start whole : ℕ} {v : Verdict} → n ≤ maxNodes
+        → fault ≡ lowest (λ i b. nodeRule (take n all) i (nodeOf b)) (insides type.Node s)
+        → symbols ≡ leastOf (itemRule (take n all) 0 sort.Symbol) (insides (typeOf sort.Symbol) s)
+        → start ≡ broken 7 (leb n (theInteger type.NodeId s)) → whole ≡ min symbols start → v ≡ verdictOf fault whole n
+        → v ≡ judge (modelOf s)
+    found few f g h w e =
+        let l = node-count in
+        rw (judge-few (modelOf s) (omega arith), all-parents, nodes-fault, symbols-rule, start-none, node-count, ← f, ← g, ← h, ← w) e

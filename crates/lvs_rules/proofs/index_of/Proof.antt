@@ -1,0 +1,20 @@
+-- `lvs_rules::index_of` meets its contract. Assumes nothing.
+use borrow.Author.Needs.{needs}
+use borrow.Author.Tests.{lt-ltb, le-ltb}
+use Rattle.lvs_rules.specs.Lowest.{parentFrom}
+use Rattle.lvs_rules.proofs.index_of.Statement.{statement}
+use Rattle.lvs_rules.proofs.index_of.Tie as tie
+
+cast-result : tie.Need-cast-result
+cast-result c = search needs
+
+returns : tie.Need-returns
+unfolding parentFrom
+returns c = simp (lt-ltb _ _ (c .if1 .taken))
+
+returns-2 : tie.Need-returns-2
+unfolding parentFrom
+returns-2 c = simp (le-ltb _ _ (c .if1 .left))
+
+pub index-of-spec : {M : Type 1} → statement M
+index-of-spec = tie.close (tie.spec cast-result returns returns-2)

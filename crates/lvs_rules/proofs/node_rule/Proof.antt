@@ -1,0 +1,22 @@
+-- `lvs_rules::node_rule` meets its contract. Assumes nothing.
+use Rattle.lvs_rules.proofs.Items.{node-item}
+use borrow.Author.Needs.{needs}
+use Rattle.lvs_rules.proofs.node_rule.Statement.{statement}
+use Rattle.lvs_rules.proofs.node_rule.Tie as tie
+
+returns : tie.Need-returns
+returns c = node-item _ _ _ (c .before .before .before .before .before .before .before .number-in .ensures) (c .before .before .before .before .before .before .id-rule .ensures) (c .before .before .before .before .before .sweep .ensures) (c .before .before .before .before .sweep2 .ensures) (c .before .before .before .sweep3 .ensures) (c .before .before .lower .ensures) (c .before .lower2 .ensures) (c .lower3 .ensures)
+
+pub node-rule-spec : {M : Type 1} → statement M
+node-rule-spec =
+    tie.close
+    (tie.spec
+    (λ c κs. search needs)
+    (λ c κs. search needs)
+    (λ c κs. search needs)
+    (λ c κs. search needs)
+    (λ c κs. search needs)
+    (λ c κs. search needs)
+    (λ c κs. search needs)
+    (λ c κs. search needs)
+    returns)

@@ -1,0 +1,18 @@
+-- `lvs_rules::start_rule` meets its contract. Assumes nothing.
+use native.Mathlib.Omega.{arith}
+use borrow.Author.Needs.{needs}
+use Rattle.lvs_rules.proofs.Least.{reached, not-reached}
+use Rattle.lvs_rules.proofs.start_rule.Statement.{statement}
+use Rattle.lvs_rules.proofs.start_rule.Tie as tie
+
+number-in-requires : tie.Need-number-in-requires
+number-in-requires c κs = search needs
+
+returns : tie.Need-returns
+returns c = rw (← c .before .number-in .ensures) (reached 7 (c .before .before .before .args .n) (c .before .number-in .result) (omega arith))
+
+returns-2 : tie.Need-returns-2
+returns-2 c = rw (← c .before .number-in .ensures) (not-reached 7 (c .before .before .before .args .n) (c .before .number-in .result) (omega arith))
+
+pub start-rule-spec : {M : Type 1} → statement M
+start-rule-spec = tie.close (tie.spec number-in-requires returns returns-2)

@@ -1,0 +1,33 @@
+-- The lowest rule that Nodes break, with the first Node that breaks it; and what the answers say.
+use Prim.Native.Nat.{ℕ, suc}
+use mathlib.Core.Bool.{cond}
+use mathlib.Core.List.{List, [], _∷_}
+use lib.Dec.{ltb, eqb}
+use Rattle.lvs_spec.specs.Verdict.{Verdict, accepted, refused}
+use Rattle.lvs_rules.specs.Lowest.{noRule}
+use Rattle.lvs_rules.specs.declared.Fault.{Fault}
+use Rattle.lvs_rules.specs.declared.Judged.{Judged}
+use Rattle.lvs_rules.specs.declared.Judged.the-variants.{Accepted, Refused}
+
+abbrev pub judgedOf : Judged → Verdict
+judgedOf (Accepted n) = accepted n
+judgedOf (Refused r i) = refused r i
+
+-- the one of the lower rule; of two with the same rule the first
+unfoldable pub earlier : Fault → Fault → Fault
+earlier a b = cond (ltb (b .rule) (a .rule)) b a
+
+-- f i x is the lowest rule that x breaks at position i
+unfoldable pub lowestFrom : {A : Type 0} → (ℕ → A → ℕ) → ℕ → List A → Fault
+lowestFrom f i [] = record { rule = noRule; node = i }
+lowestFrom f i (x ∷ xs) = earlier (record { rule = f i x; node = i }) (lowestFrom f (suc i) xs)
+
+unfoldable pub lowest : {A : Type 0} → (ℕ → A → ℕ) → List A → Fault
+lowest f xs = earlier (record { rule = noRule; node = 0 }) (lowestFrom f 0 xs)
+
+-- the verdict, where `fault` is that of the Nodes and `whole` the lowest of rule 5 in TagSymbols and of rule 7, which name no Node
+unfoldable pub verdictOf : Fault → ℕ → ℕ → Verdict
+verdictOf fault whole count =
+    cond (ltb whole (fault .rule)) (refused whole 0)
+    (cond (eqb (fault .rule) noRule) (accepted count)
+    (cond (eqb (fault .rule) 5) (refused 5 0) (refused (fault .rule) (fault .node))))
