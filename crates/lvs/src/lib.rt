@@ -77,14 +77,20 @@ pub fn match_name(model: &[u8], name: &[u8], buffer: &mut [u32]) -> MatchAnswer
 }
 
 // Whether a key name may sign a packet name.
-pub fn sign(model: &[u8], packet: &[u8], key: &[u8]) -> SignAnswer
+pub fn sign<'a>(model: &[u8], packet: &'a [u8], key: &'a [u8]) -> SignAnswer
     ensures { λ r. ⌜ signAnswerOf r ≡ signAnswer (now (model .entry)) (now (packet .entry)) (now (key .entry)) ⌝ }
 {
     if let Verdict::Refused { number, node } = judge_model(model) {
         return SignAnswer::Refused { number, node };
     }
-    let NameRead::Good(packet_from) = lvs_names::read_name(packet, PACKET_REFUSALS) else {
-        return SignAnswer::NotAllowed;
-    };
-    SignAnswer::NotAllowed
+    match lvs_names::read_name(packet, PACKET_REFUSALS) {
+        NameRead::Refused(number) => SignAnswer::Refused { number, node: 0 },
+        NameRead::Good(p) => match lvs_names::read_name(key, KEY_REFUSALS) {
+            NameRead::Refused(number) => SignAnswer::Refused { number, node: 0 },
+            NameRead::Good(k) => match lvs_walk::find_pair(model, packet, p, key, k) {
+                Found::Nothing => SignAnswer::NotAllowed,
+                Found::At(packet, key) => SignAnswer::Allowed { packet, key },
+            },
+        },
+    }
 }

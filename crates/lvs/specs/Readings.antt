@@ -1,0 +1,24 @@
+-- Each case of an answer's enum, with document 01's numbers and values.
+use Prim.Native.Nat.{ℕ}
+use Rattle.lvs_spec.specs.Verdict.{Verdict as Judgement}
+use Rattle.lvs_spec.specs.Answers.{MatchAnswer as Matching, SignAnswer as Signing}
+use Rattle.lvs.specs.declared.Verdict.{Verdict}
+use Rattle.lvs.specs.declared.Verdict.the-variants as verdicts
+use Rattle.lvs.specs.declared.MatchAnswer.{MatchAnswer}
+use Rattle.lvs.specs.declared.MatchAnswer.the-variants as matchings
+use Rattle.lvs.specs.declared.SignAnswer.{SignAnswer}
+use Rattle.lvs.specs.declared.SignAnswer.the-variants as signings
+
+abbrev pub verdictOf : Verdict → Judgement
+verdictOf (verdicts.Accepted n) = Judgement.accepted n
+verdictOf (verdicts.Refused r i) = Judgement.refused r i
+
+abbrev pub matchAnswerOf : MatchAnswer → Matching
+matchAnswerOf (matchings.Match v n) = Matching.matched v n
+matchAnswerOf matchings.NoMatch = Matching.noMatch
+matchAnswerOf (matchings.Refused r i) = Matching.refused (record { number = r; node = i })
+
+abbrev pub signAnswerOf : SignAnswer → Signing
+signAnswerOf (signings.Allowed p k) = Signing.allowed p k
+signAnswerOf signings.NotAllowed = Signing.notAllowed
+signAnswerOf (signings.Refused r i) = Signing.refused (record { number = r; node = i })
