@@ -22,22 +22,15 @@ ghost use Rattle.lvs_walk.specs.Crossing.{componentAt, edgeType, crossin
 use lvs_constraints::Slot;
 use lvs_fields::Part;
 use lvs_names::ComponentRead;
+use lvs_spec::types::NODE;
+use lvs_spec::types::NODE_ID;
+use lvs_spec::types::PATTERN_EDGE;
+use lvs_spec::types::SIGN_CONSTRAINT;
+use lvs_spec::types::TAG;
+use lvs_spec::types::VALUE;
+use lvs_spec::types::VALUE_EDGE;
 use tlv::Place;
 use tlv::Read;
-
-const TAG: u32 = 0x23;
-
-const NODE_ID: u32 = 0x25;
-
-const VALUE: u32 = 0x21;
-
-const VALUE_EDGE: u32 = 0x51;
-
-const PATTERN_EDGE: u32 = 0x53;
-
-const SIGN_CONSTRAINT: u32 = 0x55;
-
-const NODE: u32 = 0x63;
 
 // An edge as a part of its Node, and the place behind it.
 pub enum EdgeRead {
