@@ -413,7 +413,7 @@ pub fn find_match(model: &[u8], name: &[u8], from: usize, slots: &mut [u32]) -> 
     requires { ⌜ (length (now name) ≤ maxNameBytes) × (now slots ≡ clear) ⌝ }
     ensures { λ r. ⌜ FirstMatch (modelOf (now (model .entry))) (rowFrom (now (name .entry)) from) (now (name .entry)) r (now (slots .exit)) ⌝ }
 {
-    let mut places = [0u32; 256];
+    let mut places = [0u32; lvs_spec::MAX_NODES];
     let n = node_places(model, &mut places);
     let start = lvs_fields::number_in(model, NODE_ID);
     walk(
@@ -442,10 +442,10 @@ pub fn find_pair<'a>(
     requires { ⌜ (length (now packet) ≤ maxNameBytes) × (length (now key) ≤ maxNameBytes) ⌝ }
     ensures { λ r. ⌜ FirstPair (modelOf (now (model .entry))) (rowFrom (now (packet .entry)) «packet_from») (rowFrom (now (key .entry)) «key_from») r ⌝ }
 {
-    let mut places = [0u32; 256];
+    let mut places = [0u32; lvs_spec::MAX_NODES];
     let n = node_places(model, &mut places);
     let start = lvs_fields::number_in(model, NODE_ID);
-    let mut slots = [0u32; 256];
+    let mut slots = [0u32; lvs_spec::BINDING_WORDS];
     walk(
         model,
         &places[..n],
