@@ -104,3 +104,18 @@ pair-first m ps ks {packet} {key} {before} {after} {r} f =
     go : (q : Found) → first (pairs m ps ks) ≡ mapped nodesOf (hitOf packet key q after) → FirstPair m ps ks q
     go Nothing e = e
     go (At p k) e = e
+
+-- ---- for callers
+
+pub found-none : (m : Model) (cs : List Component) (name slots : List ℕ) {r : Found} → FirstMatch m cs name r slots → r ≡ Nothing → first (packetMatches m cs) ≡ none
+found-none m cs name slots f e = subst (λ (x : Found). FirstMatch m cs name x slots) e f
+
+pub found-match : (m : Model) (cs : List Component) (name slots : List ℕ) {r : Found} {v k : ℕ} → FirstMatch m cs name r slots → r ≡ At v k
+    → first (packetMatches m cs) ≡ some (v, bindingsOf name [] slots)
+found-match m cs name slots f e = subst (λ (x : Found). FirstMatch m cs name x slots) e f
+
+pub found-no-pair : (m : Model) (ps ks : List Component) {r : Found} → FirstPair m ps ks r → r ≡ Nothing → first (pairs m ps ks) ≡ none
+found-no-pair m ps ks f e = subst (λ (x : Found). FirstPair m ps ks x) e f
+
+pub found-pair : (m : Model) (ps ks : List Component) {r : Found} {p k : ℕ} → FirstPair m ps ks r → r ≡ At p k → first (pairs m ps ks) ≡ some (p, k)
+found-pair m ps ks f e = subst (λ (x : Found). FirstPair m ps ks x) e f
