@@ -2,6 +2,7 @@
 //
 // A request on standard input is the mark 4D 4B, then a 2-byte length (high byte first) and the packet name, then such a length and the
 // key name. Each gets one line. Nothing is read ahead, so an answer stands as soon as its request does.
+ghost use Prim.Native.Nat.{_≤_};
 ghost use Rattle.io.specs.Counts.{Counts};
 use libc::STDIN_FILENO;
 use libc::STDOUT_FILENO;
@@ -59,10 +60,11 @@ fn read_model(space: &mut [u8]) -> usize
 
 fn answer_requests(model: &[u8]) {
     let mut k = 0;
-    let mut goes_on = true;
-    while goes_on && k < LAST_REQUEST {
+    while k < LAST_REQUEST {
         k += 1;
-        goes_on = answer_request(model, k);
+        if !answer_request(model, k) {
+            return;
+        }
     }
 }
 
@@ -132,7 +134,9 @@ fn read_name(space: &mut [u8]) -> NameBytes
     }
 }
 
-fn wide(b: u8) -> usize {
+fn wide(b: u8) -> usize
+    ensures { λ r. ⌜ r ≤ 255 ⌝ }
+{
     b as usize
 }
 
