@@ -1,0 +1,265 @@
+// The case driver: makes the library's calls on cases from standard input and prints every number and word that they answer, so that any
+// other checker can be compared with it.
+//
+// A case is one letter, then its fields, each a 4-byte length (high byte first) and that many bytes: `V` model; `M` model, packet name,
+// binding words (4 bytes each, high byte first); `S` model, packet name, key name. Each gets one line. A field that is too long, a cut
+// case or another letter prints `broken` and ends.
+ghost use Prim.Native.Nat.{_≤_};
+
+mod input;
+mod output;
+
+use input::Input;
+use lvs::MatchAnswer;
+use lvs::SignAnswer;
+use lvs::Verdict;
+
+const NAME_BYTES: usize = 4096;
+
+const WORDS: usize = 1024;
+
+// Where input and output stand behind a case, and whether it was a whole one.
+struct Turn {
+    is_whole: bool,
+    input: Input,
+    used: usize,
+}
+
+fn main() {
+    let mut space = [0u8; 65536];
+    let mut model = [0u8; 65536];
+    let mut out = [0u8; 65536];
+    let used = answer_cases(&mut space, &mut model, &mut out);
+    output::flush(&out, used);
+}
+
+// Nothing says that the input ends, so the loop counts its turns down, from a number that no run uses up.
+fn answer_cases(space: &mut [u8; 65536], model: &mut [u8; 65536], out: &mut [u8; 65536]) -> usize
+    ensures { λ r. ⌜ r ≤ 65536 ⌝ }
+{
+    let mut input = Input { at: 0, end: 0 };
+    let mut used = 0;
+    let mut turns = u64::MAX;
+    while turns > 0 {
+        turns -= 1;
+        let mut letter = [0u8; 1];
+        let taken = input::take(space, input, &mut letter);
+        if taken.count == 0 {
+            return used;
+        }
+        let behind = taken.input;
+        let turn = answer_case(letter[0], space, behind, model, out, used);
+        if !turn.is_whole {
+            return output::put(out, turn.used, b"broken\n");
+        }
+        input = turn.input;
+        used = turn.used;
+    }
+    used
+}
+
+fn answer_case(
+    letter: u8,
+    space: &mut [u8; 65536],
+    input: Input,
+    model: &mut [u8; 65536],
+    out: &mut [u8; 65536],
+    used: usize,
+) -> Turn
+    requires { ⌜ (input .end ≤ 65536) × (used ≤ 65536) ⌝ }
+    ensures { λ r. ⌜ (r .input .end ≤ 65536) × (r .used ≤ 65536) ⌝ }
+{
+    let field = input::field(space, input, model);
+    let behind = field.input;
+    if !field.is_whole {
+        return Turn {
+            is_whole: false,
+            input: behind,
+            used,
+        };
+    }
+    let n = field.count;
+    match letter {
+        b'V' => Turn {
+            is_whole: true,
+            input: behind,
+            used: put_verdict(out, used, lvs::judge_model(&model[..n])),
+        },
+        b'M' => answer_match(space, behind, &model[..n], out, used),
+        b'S' => answer_sign(space, behind, &model[..n], out, used),
+        _ => Turn {
+            is_whole: false,
+            input: behind,
+            used,
+        },
+    }
+}
+
+fn answer_match(
+    space: &mut [u8; 65536],
+    input: Input,
+    model: &[u8],
+    out: &mut [u8; 65536],
+    used: usize,
+) -> Turn
+    requires { ⌜ (input .end ≤ 65536) × (used ≤ 65536) ⌝ }
+    ensures { λ r. ⌜ (r .input .end ≤ 65536) × (r .used ≤ 65536) ⌝ }
+{
+    let mut name = [0u8; NAME_BYTES];
+    let mut bytes = [0u8; 4096];
+    let mut words = [0u32; WORDS];
+    let first = input::field(space, input, &mut name);
+    let n = first.count;
+    let middle = first.input;
+    if !first.is_whole {
+        return Turn {
+            is_whole: false,
+            input: middle,
+            used,
+        };
+    }
+    let second = input::field(space, middle, &mut bytes);
+    let count = second.count;
+    let behind = second.input;
+    if !second.is_whole {
+        return Turn {
+            is_whole: false,
+            input: behind,
+            used,
+        };
+    }
+    if count % 4 != 0 {
+        return Turn {
+            is_whole: false,
+            input: behind,
+            used,
+        };
+    }
+    let k = count / 4;
+    read_words(&bytes, &mut words);
+    let answer = lvs::match_name(model, &name[..n], &mut words[..k]);
+    Turn {
+        is_whole: true,
+        input: behind,
+        used: put_match(out, used, answer, &words[..k]),
+    }
+}
+
+fn read_words(bytes: &[u8; 4096], words: &mut [u32; 1024]) {
+    let mut i = 0;
+    while i < words.len() {
+        let at = i * 4;
+        let high = long(bytes[at]) * 256 + long(bytes[at + 1]);
+        let low = long(bytes[at + 2]) * 256 + long(bytes[at + 3]);
+        words[i] = high * 65536 + low;
+        i += 1;
+    }
+}
+
+fn long(b: u8) -> u32
+    ensures { λ r. ⌜ r ≤ 255 ⌝ }
+{
+    b as u32
+}
+
+fn answer_sign(
+    space: &mut [u8; 65536],
+    input: Input,
+    model: &[u8],
+    out: &mut [u8; 65536],
+    used: usize,
+) -> Turn
+    requires { ⌜ (input .end ≤ 65536) × (used ≤ 65536) ⌝ }
+    ensures { λ r. ⌜ (r .input .end ≤ 65536) × (r .used ≤ 65536) ⌝ }
+{
+    let mut packet = [0u8; NAME_BYTES];
+    let mut key = [0u8; NAME_BYTES];
+    let first = input::field(space, input, &mut packet);
+    let n = first.count;
+    let middle = first.input;
+    if !first.is_whole {
+        return Turn {
+            is_whole: false,
+            input: middle,
+            used,
+        };
+    }
+    let second = input::field(space, middle, &mut key);
+    let m = second.count;
+    let behind = second.input;
+    if !second.is_whole {
+        return Turn {
+            is_whole: false,
+            input: behind,
+            used,
+        };
+    }
+    Turn {
+        is_whole: true,
+        input: behind,
+        used: put_sign(out, used, lvs::sign(model, &packet[..n], &key[..m])),
+    }
+}
+
+fn put_verdict(out: &mut [u8; 65536], used: usize, verdict: Verdict) -> usize
+    requires { ⌜ used ≤ 65536 ⌝ }
+    ensures { λ r. ⌜ r ≤ 65536 ⌝ }
+{
+    let at = match verdict {
+        Verdict::Accepted { nodes } => put_accepted(out, used, nodes),
+        Verdict::Refused { number, node } => put_refused(out, used, number, node),
+    };
+    output::put(out, at, b"\n")
+}
+
+fn put_match(out: &mut [u8; 65536], used: usize, answer: MatchAnswer, words: &[u32]) -> usize
+    requires { ⌜ used ≤ 65536 ⌝ }
+    ensures { λ r. ⌜ r ≤ 65536 ⌝ }
+{
+    let at = match answer {
+        MatchAnswer::Match { node, bound } => output::put_pair(
+            out,
+            used,
+            b"match ",
+            node,
+            bound as u64,
+        ),
+        MatchAnswer::NoMatch => output::put(out, used, b"no match"),
+        MatchAnswer::Refused { number, node } => put_refused(out, used, number, node),
+    };
+    let behind = output::put_words(out, at, words);
+    output::put(out, behind, b"\n")
+}
+
+fn put_sign(out: &mut [u8; 65536], used: usize, answer: SignAnswer) -> usize
+    requires { ⌜ used ≤ 65536 ⌝ }
+    ensures { λ r. ⌜ r ≤ 65536 ⌝ }
+{
+    let at = match answer {
+        SignAnswer::Allowed { packet, key } => output::put_pair(
+            out,
+            used,
+            b"allowed ",
+            packet,
+            key,
+        ),
+        SignAnswer::NotAllowed => output::put(out, used, b"not allowed"),
+        SignAnswer::Refused { number, node } => put_refused(out, used, number, node),
+    };
+    output::put(out, at, b"\n")
+}
+
+fn put_accepted(out: &mut [u8; 65536], used: usize, nodes: u32) -> usize
+    requires { ⌜ used ≤ 65536 ⌝ }
+    ensures { λ r. ⌜ r ≤ 65536 ⌝ }
+{
+    let at = output::put(out, used, b"accepted ");
+    output::put_number(out, at, nodes as u64)
+}
+
+fn put_refused(out: &mut [u8; 65536], used: usize, number: u32, node: u32) -> usize
+    requires { ⌜ used ≤ 65536 ⌝ }
+    ensures { λ r. ⌜ r ≤ 65536 ⌝ }
+{
+    output::put_pair(out, used, b"refused ", number as u64, node as u64)
+}

@@ -1,0 +1,183 @@
+"""Models, names and cases in bytes, written the way document 01 describes them. Nothing is checked here: faults are wanted too."""
+
+# types of elements (source document 000)
+NAME, GENERIC = 0x07, 0x08
+VALUE, TAG, NODE_ID, FN_ID, IDENTIFIER = 0x21, 0x23, 0x25, 0x27, 0x29
+CALL, ARGUMENT, OPTION, CONSTRAINT = 0x31, 0x33, 0x41, 0x43
+VALUE_EDGE, PATTERN_EDGE, SIGNER, PARENT = 0x51, 0x53, 0x55, 0x57
+VERSION, NODE, SYMBOL, PATTERN_COUNT = 0x61, 0x63, 0x67, 0x69
+
+GOOD_VERSION = 0x00011000
+
+
+def number(n):
+    """A type or a length, in the shortest form."""
+    if n < 253:
+        return bytes([n])
+    if n < 1 << 16:
+        return b"\xfd" + n.to_bytes(2, "big")
+    if n < 1 << 32:
+        return b"\xfe" + n.to_bytes(4, "big")
+    return b"\xff" + n.to_bytes(8, "big")
+
+
+def element(typ, *inside):
+    inside = b"".join(inside)
+    return number(typ) + number(len(inside)) + inside
+
+
+def integer(typ, n, size=None):
+    """An integer of `size` bytes; of the fewest that hold it where no size is given."""
+    size = size or next(size for size in (1, 2, 4, 8) if n < 1 << 8 * size)
+    return element(typ, n.to_bytes(size, "big"))
+
+
+def component(text, typ=GENERIC):
+    return element(typ, text if isinstance(text, bytes) else text.encode())
+
+
+def name(*components):
+    """A name of generic components; one in bytes is an element already."""
+    return element(NAME, *(c if isinstance(c, bytes) else component(c) for c in components))
+
+
+def path(uri):
+    """/a/b as a name of generic components."""
+    return name(*uri.strip("/").split("/")) if uri.strip("/") else name()
+
+
+def value(text):
+    return element(VALUE, text if isinstance(text, bytes) else component(text))
+
+
+def tag(n):
+    return integer(TAG, n)
+
+
+def argument(term):
+    return element(ARGUMENT, term)
+
+
+def call(function, *terms):
+    return element(CALL, element(FN_ID, function.encode()), *map(argument, terms))
+
+
+def option(*terms):
+    return element(OPTION, *terms)
+
+
+def constraint(*options):
+    return element(CONSTRAINT, *options)
+
+
+def must_be(*texts):
+    """A Constraint that holds for each of these values."""
+    return constraint(*(option(value(text)) for text in texts))
+
+
+def value_edge(destination, text):
+    return element(VALUE_EDGE, integer(NODE_ID, destination), value(text))
+
+
+def pattern_edge(destination, n, *constraints):
+    return element(PATTERN_EDGE, integer(NODE_ID, destination), tag(n), *constraints)
+
+
+def node_id(i):
+    return integer(NODE_ID, i)
+
+
+def parent(i):
+    return integer(PARENT, i)
+
+
+def signer(i):
+    return integer(SIGNER, i)
+
+
+def rule_name(text):
+    return element(IDENTIFIER, text.encode())
+
+
+def node(i, *rest):
+    return element(NODE, node_id(i), *rest)
+
+
+def symbol(n, text):
+    return element(SYMBOL, tag(n), element(IDENTIFIER, text.encode()))
+
+
+def model(*nodes, start=0, patterns=0, version=GOOD_VERSION, behind=b""):
+    head = element(VERSION, version.to_bytes(4, "big")) + integer(NODE_ID, start) + integer(PATTERN_COUNT, patterns)
+    return head + b"".join(nodes) + behind
+
+
+def padded(short, size):
+    """A model with an optional element behind its last, so that it has `size` bytes."""
+    return short + element(0x80, bytes(size - len(short) - 4))
+
+
+def tree(*branches, patterns=0):
+    """A model from the paths of its leaves: [(edge, ..), .., signers], where an edge is a text, or (Tag, Constraint, ..).
+
+    Equal beginnings are one path. Nodes are numbered as the paths reach them, and Node 0 is the start.
+    """
+    children, parents, signers = [{}], [None], [()]
+    for branch in branches:
+        *edges, signed_by = branch
+        at = 0
+        for edge in edges:
+            if edge not in children[at]:
+                children[at][edge] = len(children)
+                children.append({})
+                parents.append(at)
+                signers.append(())
+            at = children[at][edge]
+        signers[at] = signed_by
+    nodes = []
+    for i, out in enumerate(children):
+        rest = [] if parents[i] is None else [parent(parents[i])]
+        rest += [value_edge(to, edge) for edge, to in out.items() if isinstance(edge, str)]
+        rest += [pattern_edge(to, *edge) for edge, to in out.items() if not isinstance(edge, str)]
+        rest += [signer(j) for j in signers[i]]
+        nodes.append(node(i, *rest))
+    return model(*nodes, patterns=patterns)
+
+
+# cases of the driver lvs_cases
+
+
+def field(data):
+    return len(data).to_bytes(4, "big") + data
+
+
+def verdict(of):
+    return b"V" + field(of)
+
+
+def match(of, packet, words=()):
+    return b"M" + field(of) + field(packet) + field(b"".join(word.to_bytes(4, "big") for word in words))
+
+
+def sign(of, packet, key):
+    return b"S" + field(of) + field(packet) + field(key)
+
+
+def words_line(words):
+    return "".join(f" {word}" for word in words)
+
+
+OLD = [4294967295 - i for i in range(256)]  # what a buffer of 256 words holds before a call
+
+
+def matched(at, *bound, behind=()):
+    """The line of a match: its node, then (Tag, start, length) of each bound Tag, all other words 0, and the words behind the first 256."""
+    words = [0] * 256
+    for n, start, length in bound:
+        words[2 * n - 2 : 2 * n] = start, length
+    return f"match {at} {len(bound)}" + words_line([*words, *behind])
+
+
+def kept(answer, words=OLD):
+    """The line of another answer: all words as they were."""
+    return answer + words_line(words)

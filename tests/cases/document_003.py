@@ -1,0 +1,102 @@
+"""Source document 003: the three checks of its quick example and the ten of its tutorial, on models encoded by hand.
+
+Each occurrence of a temporary pattern has a Tag of its own, as 000 says. What 003 prints as True is "allowed" here, with the nodes at
+which the two rules end; False is "not allowed".
+"""
+from build import *
+
+
+def key(*tags):
+    """#KEY: "KEY"/_/_/_, with the Tags of this occurrence."""
+    return ["KEY", *((n,) for n in tags)]
+
+
+# Tags: 1 category, 2 year, 3 month, 4 role, 5 author, 6 admin; 7 to 15 are temporary
+ROOT, ARTICLE, ADMIN, AUTHOR = 6, 10, 16, 22
+QUICK = tree(
+    ["a", "blog", *key(7, 8, 9), ()],  # #root: Nodes 1 to 6
+    ["a", "blog", "article", (1,), (2,), (3,), (AUTHOR,)],  # #article: Nodes 7 to 10
+    ["a", "blog", "admin", (6,), *key(10, 11, 12), (ROOT,)],  # #admin: Nodes 11 to 16
+    ["a", "blog", (4, must_be("author")), (5,), *key(13, 14, 15), (ADMIN,)],  # #author: Nodes 17 to 22
+    patterns=6,
+)
+
+QUICK_CHECKS = (
+    ("/a/blog/article/math/2022/03", "/a/blog/author/xinyu/KEY/1/admin/1", f"allowed {ARTICLE} {AUTHOR}"),
+    ("/a/blog/author/xinyu/KEY/1/admin/1", "/a/blog/admin/admin/KEY/1/root/1", f"allowed {AUTHOR} {ADMIN}"),
+    ("/a/blog/author/xinyu/KEY/1/admin/1", "/a/blog/KEY/1/self/1", "not allowed"),
+)
+
+# Tags: 1 adminID, 2 ID, 3 year, 4 articleID; 5 to 19 are temporary, each _role too
+T_ROOT, T_ADMIN, T_AUTHOR, T_USER, T_ARTICLE = 6, 12, 18, 24, 28
+VALID_ID = constraint(option(call("$isValidID")))
+VALID_YEAR = constraint(option(call("$isValidYear")))
+TUTORIAL = tree(
+    ["ndn", "blog", *key(5, 6, 7), ()],  # #root: Nodes 1 to 6
+    ["ndn", "blog", (8, must_be("admin")), (1,), *key(9, 10, 11), (T_ROOT,)],  # #admin: Nodes 7 to 12
+    ["ndn", "blog", (12, must_be("author")), (2, VALID_ID), *key(13, 14, 15), (T_ADMIN,)],  # #author: Nodes 13 to 18
+    ["ndn", "blog", (16, must_be("reader", "author")), (2, VALID_ID), *key(17, 18, 19), (T_ADMIN,)],  # #user: Nodes 19 to 24
+    ["ndn", "blog", (2,), "post", (3, VALID_YEAR), (4,), (T_ADMIN, T_AUTHOR)],  # #article: Nodes 25 to 28
+    patterns=4,
+)
+
+ADMIN_KEY = "/ndn/blog/admin/000001/KEY/1/root/1"
+AUTHOR_KEY = "/ndn/blog/author/100001/KEY/1/000001/1"
+TUTORIAL_CHECKS = (
+    (ADMIN_KEY, "/ndn/blog/KEY/1/self/1", f"allowed {T_ADMIN} {T_ROOT}"),
+    ("/ndn/blog/admin/000001/key/1/root/1", "/ndn/blog/KEY/1/self/1", "not allowed"),
+    ("/ndn/blog/admin/000002/KEY/1/root/1", ADMIN_KEY, "not allowed"),
+    (AUTHOR_KEY, ADMIN_KEY, f"allowed {T_AUTHOR} {T_ADMIN}"),
+    ("/ndn/blog/author/1000/KEY/1/000001/1", ADMIN_KEY, "not allowed"),
+    ("/ndn/blog/reader/200001/KEY/1/000001/1", ADMIN_KEY, f"allowed {T_USER} {T_ADMIN}"),
+    ("/ndn/blog/100001/post/2022/1", AUTHOR_KEY, f"allowed {T_ARTICLE} {T_AUTHOR}"),
+    ("/ndn/blog/100001/post/2022/1", "/ndn/blog/author/100002/KEY/1/000001/1", "not allowed"),
+    ("/ndn/blog/100001/post/202/1", AUTHOR_KEY, "not allowed"),
+    ("/ndn/blog/200001/post/2022/1", "/ndn/blog/reader/200001/KEY/1/000001/1", "not allowed"),
+)
+
+
+def patterns():
+    """003's examples of patterns and Constraints."""
+    key_pattern = tree(["ndn", (1,), "KEY", (2,), ()])  # /"ndn"/user/"KEY"/key_id
+    yield "/ndn/xinyu/KEY/1", match(key_pattern, path("/ndn/xinyu/KEY/1"), OLD), matched(4, (1, 7, 7), (2, 19, 3))
+    yield "/ndn/xinyu/key/1", match(key_pattern, path("/ndn/xinyu/key/1"), OLD), kept("no match")
+    yield "/ndn/xinyu/KEY/1/self/1", match(key_pattern, path("/ndn/xinyu/KEY/1/self/1"), OLD), kept("no match")
+    # /a/"b"/a/d, and /a/"b"/c/d & {c: a}: the name's components stand at 2, 5, 8 and 11
+    twice = tree([(1,), "b", (1,), (2,), ()])
+    equal = tree([(1,), "b", (3, constraint(option(tag(1)))), (2,), ()])
+    yield "/x/b/x/ddd", match(twice, path("/x/b/x/ddd"), OLD), matched(4, (1, 2, 3), (2, 11, 5))
+    yield "/x/b/y/ddd", match(twice, path("/x/b/y/ddd"), OLD), kept("no match")
+    yield "/x/b/x/ddd, c: a", match(equal, path("/x/b/x/ddd"), OLD), matched(4, (1, 2, 3), (2, 11, 5), (3, 8, 3))
+    yield "/x/b/y/ddd, c: a", match(equal, path("/x/b/y/ddd"), OLD), kept("no match")
+    # /a/b/c & {b: c} matches nothing by itself; as a key it does where the packet has bound c
+    later = tree([(1,), (2, constraint(option(tag(3)))), (3,), ()])
+    yield "b: c, before c", match(later, path("/x/y/y"), OLD), kept("no match")
+    # #r1: /a/b & {b: c}, Node 2, and #r2: "r2"/c/d <= #r1, Node 5
+    chain = tree([(1,), (2, constraint(option(tag(3)))), ()], ["r2", (3,), (4,), (2,)])
+    yield "#r1 by itself", match(chain, path("/x/y"), OLD), kept("no match")
+    yield "#r1 signs #r2 with its c", sign(chain, path("/r2/y/z"), path("/x/y")), "allowed 5 2"
+    yield "and with another", sign(chain, path("/r2/y/z"), path("/x/z")), "not allowed"
+    # a post is signed by its own author, or by any admin
+    posts = tree(
+        ["post", (1,), (2,), (5, 8)],
+        ["author", (1,), (8,)],
+        ["admin", (3,), (4,), ()],
+    )
+    yield "the post's author", sign(posts, path("/post/xinyu/2022"), path("/author/xinyu")), "allowed 3 5"
+    yield "another author", sign(posts, path("/post/xinyu/2022"), path("/author/zhiyi")), "not allowed"
+    yield "any admin", sign(posts, path("/post/xinyu/2022"), path("/admin/zhiyi/k")), "allowed 3 8"
+
+
+def cases():
+    yield "quick example", verdict(QUICK), "accepted 23"
+    yield "tutorial", verdict(TUTORIAL), "accepted 29"
+    for i, (packet, by, answer) in enumerate(QUICK_CHECKS, 1):
+        yield f"quick example, check {i}", sign(QUICK, path(packet), path(by)), answer
+    for i, (packet, by, answer) in enumerate(TUTORIAL_CHECKS, 1):
+        yield f"tutorial, check {i}", sign(TUTORIAL, path(packet), path(by)), answer
+    # /ndn at 2 (5 bytes), /blog at 7 (6), the rest from 13: 100001 (8 bytes), post (6), 2022 (6), 1 (3)
+    article = matched(T_ARTICLE, (2, 13, 8), (3, 27, 6), (4, 33, 3))
+    yield "tutorial, an article's bindings", match(TUTORIAL, path("/ndn/blog/100001/post/2022/1"), OLD), article
+    yield "tutorial, no such name", match(TUTORIAL, path("/ndn/blog"), OLD), matched(2)
+    yield from patterns()

@@ -1,0 +1,322 @@
+"""Each refusal of a model at the first, a middle and the last Node; two faults at once; malformed elements; refused names."""
+from bench import B
+from build import *
+from limits import all_three
+
+COUNT = 5
+A_NAME = path("/a")
+NODE_RULES = (6, 8, 9, 10, 11, 12)  # these answer the Node's position, the others 0
+
+
+def ring():
+    """Five Nodes, each with edges to the next and the last with edges to the first, as dicts, so that each part can be put at fault.
+
+    Every Node has a Parent, a RuleName, a ValueEdge, a PatternEdge with an option, and a signer.
+    """
+    return [
+        dict(
+            at=i,
+            id=i,
+            parent=[parent((i - 1) % COUNT)],
+            to=(i + 1) % COUNT,
+            pattern_to=(i + 1) % COUNT,
+            tag=i + 1,
+            terms=[call("$eq", value("x"))],
+            signer=i,
+            behind=b"",
+        )
+        for i in range(COUNT)
+    ]
+
+
+def ring_model(nodes, more=(), **rest):
+    written = [
+        element(
+            NODE,
+            node_id(n["id"]),
+            *n["parent"],
+            rule_name("#r"),
+            value_edge(n["to"], "v"),
+            pattern_edge(n["pattern_to"], n["tag"], constraint(option(*n["terms"]))),
+            signer(n["signer"]),
+            n["behind"],
+        )
+        for n in nodes
+    ]
+    return model(*written, *more, **rest)
+
+
+def set_to(**changes):
+    return lambda nodes, i: nodes[i].update(changes)
+
+
+def no_parent(nodes, i):
+    """The edges of Node i lead to a Node without a Parent."""
+    nodes[(i + 1) % COUNT]["parent"] = []
+
+
+def other_parent(nodes, i):
+    nodes[(i + 1) % COUNT]["parent"] = [parent((i + 1) % COUNT)]
+
+
+# by refusal number: what puts Node i at fault
+FAULTS = {
+    2: [
+        ("a critical element", set_to(behind=bytes.fromhex("8100"))),
+        ("a known element out of its place", set_to(behind=parent(0))),
+        ("a cut element", set_to(behind=bytes.fromhex("80 02 00"))),
+        ("an option with a Parent", set_to(terms=[parent(0)])),
+        ("a function without its $", set_to(terms=[call("eq", value("x"))])),
+        ("an argument with two Values", set_to(terms=[element(CALL, element(FN_ID, b"$eq"), argument(value("x") + value("y")))])),
+    ],
+    5: [("Tag 0", set_to(tag=0)), ("Tag 129", set_to(tag=129)), ("Tag 129 in an option", set_to(terms=[tag(129)]))],
+    6: [("a NodeId of no Node", set_to(id=200)), ("another Node's NodeId", lambda nodes, i: nodes[i].update(id=(i + 1) % COUNT))],
+    8: [("a ValueEdge to no Node", set_to(to=COUNT)), ("a PatternEdge to no Node", set_to(pattern_to=COUNT))],
+    9: [("a signer that is no Node", set_to(signer=COUNT))],
+    10: [
+        ("an option with nothing", set_to(terms=[])),
+        ("an option with a Value and a Tag", set_to(terms=[value("x"), tag(1)])),
+        ("an option with two Values", set_to(terms=[value("x"), value("x")])),
+        ("an option with two calls", set_to(terms=[call("$eq", value("x"))] * 2)),
+        ("an option with an optional element alone", set_to(terms=[bytes.fromhex("8000")])),
+    ],
+    11: [
+        ("a ValueEdge to the Node itself", lambda nodes, i: nodes[i].update(to=i)),
+        ("a PatternEdge to the Node itself", lambda nodes, i: nodes[i].update(pattern_to=i)),
+        ("an edge to a Node without Parent", no_parent),
+        ("an edge to a Node with another Parent", other_parent),
+    ],
+    12: [
+        ("a function not known", set_to(terms=[call("$other")])),
+        ("a longer name", set_to(terms=[call("$eq_types", value("x"))])),
+        ("a shorter name", set_to(terms=[call("$e", value("x"))])),
+        ("another case", set_to(terms=[call("$isvalidid")])),
+        ("$eq without argument", set_to(terms=[call("$eq")])),
+        ("$eq with two arguments", set_to(terms=[call("$eq", value("x"), value("x"))])),
+        ("$eq_type without argument", set_to(terms=[call("$eq_type")])),
+        ("$isValidID with an argument", set_to(terms=[call("$isValidID", value("x"))])),
+        ("$isValidYear with an argument", set_to(terms=[call("$isValidYear", tag(1))])),
+    ],
+}
+
+
+def refused(rule, i):
+    return f"refused {rule} {i if rule in NODE_RULES else 0}"
+
+
+def one_fault():
+    yield "the ring", verdict(ring_model(ring())), "accepted 5"
+    for rule, faults in FAULTS.items():
+        for what, fault in faults:
+            for i in (0, 2, COUNT - 1):
+                nodes = ring()
+                fault(nodes, i)
+                yield f"{what} in Node {i}", verdict(ring_model(nodes)), refused(rule, i)
+        # what one rule refuses, all three calls refuse alike
+        for i in (0, 2, COUNT - 1):
+            nodes = ring()
+            faults[0][1](nodes, i)
+            yield from all_three(f"{faults[0][0]} in Node {i}", ring_model(nodes), refused(rule, i))
+    yield from all_three("another version", ring_model(ring(), version=0x00011001), "refused 3 0")
+    yield from all_three("a StartId of no Node", ring_model(ring(), start=COUNT), "refused 7 0")
+    yield "StartId is the last Node", verdict(ring_model(ring(), start=COUNT - 1)), "accepted 5"
+
+
+def with_faults(**at):
+    """The ring with a fault of each rule named, r5=3 for rule 5 at Node 3. Rules 1, 3, 4 and 7 concern no Node."""
+    nodes, rest = ring(), {}
+    for rule, i in sorted((int(key[1:]), i) for key, i in at.items()):
+        if rule == 1:
+            rest["behind"] = element(0x80, bytes(32768))
+        elif rule == 3:
+            rest["version"] = 0x00010FFF
+        elif rule == 4:
+            rest["more"] = [node(j) for j in range(COUNT, 257)]
+        elif rule == 7:
+            rest["start"] = 300
+        elif rule in (8, 9):
+            # with 257 Nodes, 5 names one
+            nodes[i].update(to=300) if rule == 8 else nodes[i].update(signer=300)
+        else:
+            FAULTS[rule][0][1](nodes, i)
+    return ring_model(nodes, **rest)
+
+
+def two_faults():
+    """The lower number wins, whichever stands first, and the node is its own; but 3 outranks any fault behind Version.
+
+    1 is long, so it is tried with fewer others.
+    """
+    for low in range(1, 13):
+        for high in range(low + 1, 13):
+            if low == 1 and high not in (2, 3, 12):
+                continue
+            for i, j in ((3, 1), (1, 3)):
+                of = with_faults(**{f"r{low}": i, f"r{high}": j})
+                answer = "refused 3 0" if (low, high) == (2, 3) else refused(low, i)
+                yield f"rule {low} in Node {i}, rule {high} in Node {j}", verdict(of), answer
+
+
+def one_rule_twice():
+    for rule, faults in FAULTS.items():
+        nodes = ring()
+        for i in (3, 1):
+            faults[0][1](nodes, i)
+        yield f"rule {rule} in Nodes 1 and 3", verdict(ring_model(nodes)), refused(rule, 1)
+    # an edge's faults in both of a Node's edges, and a rule's two faults in one Node
+    nodes = ring()
+    nodes[2].update(to=9, pattern_to=9, signer=9)
+    yield "every reference of Node 2", verdict(ring_model(nodes)), "refused 8 2"
+
+
+def version_first():
+    """3 is decided as soon as Version is read: no fault behind it counts, and each before it or in it does."""
+    other = element(VERSION, bytes.fromhex("00010000"))
+    yield "nothing behind Version", verdict(other), "refused 3 0"
+    yield "no element behind Version", verdict(other + b"\x00\xff"), "refused 3 0"
+    yield "a good Version and nothing", verdict(element(VERSION, bytes.fromhex("00011000"))), "refused 2 0"
+    yield "an optional element before Version", verdict(bytes.fromhex("8000") + other), "refused 3 0"
+    yield "a critical one before Version", verdict(bytes.fromhex("8100") + other), "refused 2 0"
+    yield "a known one before Version", verdict(integer(NODE_ID, 0) + other), "refused 2 0"
+    yield "a cut optional element before Version", verdict(bytes.fromhex("80fd") + other), "refused 2 0"
+    for size in (0, 1, 2, 3, 5, 8):
+        yield f"a Version of {size} bytes", verdict(element(VERSION, bytes(size))), "refused 2 0"
+    yield "a cut Version", verdict(other[:-1]), "refused 2 0"
+    yield "a Version whose length has three bytes", verdict(b"\x61\xfd\x00\x04" + other[2:]), "refused 2 0"
+    for n in (0, 0x00011001, 0x00021000, 0x01011000, 0xFFFFFFFF):
+        yield f"version {n:08x}", verdict(model(node(0), version=n)), "refused 3 0"
+
+
+def malformed():
+    """Order, presence and number of elements in each of the nine containers, and what a text and a Value may be."""
+    edge = (integer(NODE_ID, 1), tag(1))
+    leaf = node(1, parent(0))
+
+    def first(*rest):
+        return model(node(0, *rest), leaf)
+
+    def term(*terms):
+        return first(pattern_edge(1, 1, constraint(option(*terms))))
+
+    head = model()
+    yield "every order kept", verdict(first(rule_name("#a"), rule_name("#_b9"), value_edge(1, "v"), pattern_edge(1, 1), signer(1))), "accepted 2"
+    wrong = (
+        ("no StartId", head[:6] + head[9:] + node(0)),
+        ("no NamedPatternCnt", head[:9] + node(0)),
+        ("two StartIds", head[:9] + head[6:] + node(0)),
+        ("two Versions", head[:6] + head + node(0)),
+        ("a wrapper around it", element(0x08, model(node(0)))),
+        ("a TagSymbol before a Node", model(symbol(1, "a"), node(0))),
+        ("a Node without NodeId", model(element(NODE))),
+        ("a Node with two NodeIds", model(node(0, node_id(0)))),
+        ("a Node with two Parents", model(node(0, parent(0), parent(0)))),
+        ("a Parent before the NodeId", model(element(NODE, parent(0), node_id(0)))),
+        ("a Parent behind a RuleName", first(rule_name("#a"), parent(0))),
+        ("a ValueEdge behind a PatternEdge", first(pattern_edge(1, 1), value_edge(1, "v"))),
+        ("a PatternEdge behind a signer", first(signer(0), pattern_edge(1, 1))),
+        ("a RuleName behind an edge", first(value_edge(1, "v"), rule_name("#a"))),
+        ("a Node in a Node", first(node(1))),
+        ("a ValueEdge without Value", first(element(VALUE_EDGE, edge[0]))),
+        ("a ValueEdge without destination", first(element(VALUE_EDGE, value("v")))),
+        ("a ValueEdge turned round", first(element(VALUE_EDGE, value("v"), edge[0]))),
+        ("a ValueEdge with two Values", first(element(VALUE_EDGE, edge[0], value("v"), value("v")))),
+        ("a PatternEdge without Tag", first(element(PATTERN_EDGE, edge[0]))),
+        ("a PatternEdge with two Tags", first(element(PATTERN_EDGE, *edge, tag(1)))),
+        ("a PatternEdge with an option", first(element(PATTERN_EDGE, *edge, option(tag(1))))),
+        ("a Constraint with a Tag", first(element(PATTERN_EDGE, *edge, constraint(tag(1))))),
+        ("an option with an FnId", term(element(FN_ID, b"$eq"))),
+        ("a call without FnId", term(element(CALL))),
+        ("a call with its argument first", term(element(CALL, argument(tag(1)), element(FN_ID, b"$eq")))),
+        ("an argument with nothing", term(element(CALL, element(FN_ID, b"$eq"), argument(b"")))),
+        ("an argument with a Value and a Tag", term(element(CALL, element(FN_ID, b"$eq"), argument(value("x") + tag(1))))),
+        ("an argument with a call", term(element(CALL, element(FN_ID, b"$eq"), argument(call("$eq", tag(1)))))),
+        ("a TagSymbol without Identifier", model(node(0), behind=element(SYMBOL, tag(1)))),
+        ("a TagSymbol without Tag", model(node(0), behind=element(SYMBOL, element(IDENTIFIER, b"a")))),
+        ("a Value with nothing", first(value_edge(1, b""))),
+        ("a Value with two components", first(value_edge(1, component("a") + component("b")))),
+        ("a Value with an optional element behind", first(value_edge(1, component("a") + bytes.fromhex("8000")))),
+        ("a component of type 65,536", first(value_edge(1, component("a", 65536)))),
+        ("a component of type 0", first(value_edge(1, component("a", 0)))),
+        ("a component that is cut", first(value_edge(1, bytes.fromhex("080261")))),
+        ("an Identifier in the model", model(node(0), behind=rule_name("a"))),
+    )
+    for what, of in wrong:
+        yield what, verdict(of), "refused 2 0"
+    for text in ("", "#", "a", "#9", "##a", "#a-b", "#a ", "$a", "#\u00e4", "#a#"):
+        yield f"RuleName {text!r}", verdict(first(rule_name(text))), "refused 2 0"
+    for text in ("#_", "#a", "#Z_9"):
+        yield f"RuleName {text!r}", verdict(first(rule_name(text))), "accepted 2"
+    for text in ("", "9a", "#a", "a-b", "\u00e4"):
+        yield f"TagSymbol {text!r}", verdict(model(node(0), behind=symbol(1, text))), "refused 2 0"
+    yield "TagSymbol '_9'", verdict(model(node(0), behind=symbol(1, "_9"))), "accepted 1"
+    for text in ("", "$", "eq", "$9", "#eq", "$eq "):
+        yield f"FnId {text!r}", verdict(term(call(text, tag(1)))), "refused 2 0"
+    yield "no option", verdict(first(pattern_edge(1, 1, constraint()))), "accepted 2"
+    yield "a component of type 65,535", verdict(first(value_edge(1, component("a", 65535)))), "accepted 2"
+    yield "a component of a known type", verdict(first(value_edge(1, component("a", VALUE)))), "accepted 2"
+    yield "a component of no bytes", verdict(first(value_edge(1, component("")))), "accepted 2"
+
+
+def forms():
+    """Types and lengths are in the shortest form and within 1 to 4,294,967,295; all bytes are there."""
+    for what, spare, answer in (
+        ("an optional type of 3 bytes", "fd 0100 00", "accepted 2"),
+        ("an optional type of 5 bytes", "fe 00010000 00", "accepted 2"),
+        ("the largest optional type", "fe fffffffe 00", "accepted 2"),
+        ("the largest type is critical", "fe ffffffff 00", "refused 2 0"),
+        ("a type of 9 bytes", "ff 0000000100000000 00", "refused 2 0"),
+        ("type 0", "00 00", "refused 2 0"),
+        ("a type of 3 bytes that fits 1", "fd 0080 00", "refused 2 0"),
+        ("a type of 5 bytes that fits 3", "fe 00000100 00", "refused 2 0"),
+        ("a length of 3 bytes that fits 1", "80 fd 0000", "refused 2 0"),
+        ("a length of 5 bytes that fits 3", "80 fe 00000100" + "00" * 256, "refused 2 0"),
+        ("a length of 9 bytes that fits 5", "80 ff 0000000000010000", "refused 2 0"),
+        ("a length of 9 bytes", "80 ff 0000000100000000", "refused 2 0"),
+        ("the largest length", "80 ff ffffffffffffffff", "refused 2 0"),
+        ("a cut type", "fd 01", "refused 2 0"),
+        ("a cut length", "80 fd 01", "refused 2 0"),
+        ("a cut inside", "80 02 00", "refused 2 0"),
+        ("type 32", "20 00", "accepted 2"),
+        ("type 30", "1e 00", "refused 2 0"),
+        ("type 31", "1f 00", "refused 2 0"),
+        ("type 33 without its place", "21 00", "refused 2 0"),
+        ("type 34", "22 00", "accepted 2"),
+        ("type 37", "25 00", "refused 2 0"),
+        ("type 252", "fc 00", "accepted 2"),
+        ("an inside that is no element", "80 03 00ffff", "accepted 2"),
+    ):
+        yield what, verdict(B + bytes.fromhex(spare)), answer
+    # an element ends within the one around it, though the model goes on
+    yield "an optional element past its Node", verdict(model(node(0, b"\x80\x01"), node(1))), "refused 2 0"
+
+
+def names():
+    """22 and 25: what a name is."""
+    for what, data in (
+        ("no bytes", b""),
+        ("another type", element(8, component("a"))),
+        ("bytes behind it", path("/a") + b"\x00"),
+        ("a second name behind it", path("/a") * 2),
+        ("a byte missing", path("/a")[:-1]),
+        ("a component that is cut", element(NAME, b"\x08\x02a")),
+        ("a component of type 0", name(component("a", 0))),
+        ("a component of type 65,536", name(component("a", 65536))),
+        ("a component's length in 3 bytes that fits 1", element(NAME, b"\x08\xfd\x00\x01a")),
+        ("the name's length in 3 bytes that fits 1", b"\x07\xfd\x00\x03\x08\x01a"),
+        ("the name's type in 3 bytes", b"\xfd\x00\x07\x03\x08\x01a"),
+    ):
+        yield f"a packet name: {what}", match(B, data, OLD), kept("refused 22 0")
+        yield f"a packet name: {what}", sign(B, data, path("/a")), "refused 22 0"
+        yield f"a key name: {what}", sign(B, path("/a"), data), "refused 25 0"
+        yield f"both: {what}", sign(B, data, data), "refused 22 0"
+    # the element types of a model mean nothing in a name
+    for typ in (1, 7, VALUE, 0x80, 0x81, VERSION, 65535):
+        inside = component("a", typ)
+        yield f"a component of type {typ}", match(B, name(inside), OLD), matched(1, (1, 2, len(inside)))
+    # the model is tested before the names
+    yield "a malformed model and names", sign(B[:-1], b"", b""), "refused 2 0"
+
+
+def cases():
+    for part in one_fault, two_faults, one_rule_twice, version_first, malformed, forms, names:
+        yield from part()

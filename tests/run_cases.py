@@ -1,0 +1,121 @@
+#!/usr/bin/env python3
+"""Runs lvs_cases and lvs_check on the run cases of document 01 and compares every line with what the papers say.
+
+tests/cases/NAME.py builds cases of the driver, each with the line that it must get, by reasoning from the papers and not by running
+anything. Their bytes and lines are stored beside it, NAME.in and NAME.out, for other checkers to be compared with: `--store` writes
+them anew, and a plain run refuses them where they differ. shop.py has whole runs of lvs_check, driver.py of lvs_cases.
+
+usage: run_cases.py [--store] [FOLDER-OF-THE-PROGRAMS]
+"""
+import importlib
+import pathlib
+import subprocess
+import sys
+import tempfile
+
+ROOT = pathlib.Path(__file__).resolve().parent.parent
+CASES = ROOT / "tests/cases"
+TABLES = ("bench", "limits", "refusals", "gaps", "document_003", "walks")
+sys.path.insert(0, str(CASES))
+sys.dont_write_bytecode = True
+
+
+def table(name):
+    return list(importlib.import_module(name).cases())
+
+
+def stored_files(name, cases):
+    """The contents of NAME.in and NAME.out."""
+    given = b"".join(case for _, case, _ in cases)
+    lines = "".join(line + "\n" for _, _, line in cases)
+    return {CASES / f"{name}.in": given, CASES / f"{name}.out": lines.encode()}
+
+
+def store():
+    for name in TABLES:
+        for file, contents in stored_files(name, table(name)).items():
+            file.write_bytes(contents)
+
+
+def run(program, given, folder):
+    ran = subprocess.run([program], input=given, stdout=subprocess.PIPE, cwd=folder, timeout=300)
+    if ran.returncode != 0:
+        return f"status {ran.returncode}"
+    return ran.stdout.decode()
+
+
+def short(text):
+    return text if len(text) < 200 else f"{text[:150]} .. {text[-40:]}"
+
+
+def check_table(name, program):
+    """One run on all cases of a table. Answers how many lines are wrong."""
+    cases = table(name)
+    wrong = 0
+    for file, contents in stored_files(name, cases).items():
+        if not file.exists() or file.read_bytes() != contents:
+            print(f"{file.name} is not what {name}.py makes (run_cases.py --store)")
+            wrong += 1
+    lines = run(program, (CASES / f"{name}.in").read_bytes(), CASES).split("\n")[:-1]
+    if len(lines) != len(cases):
+        print(f"{name}: {len(cases)} cases and {len(lines)} lines")
+        wrong += 1
+    for (what, _, expected), line in zip(cases, lines):
+        if line != expected:
+            print(f"{name}, {what}: {short(line)!r}, not {short(expected)!r}")
+            wrong += 1
+    print(f"{name}: {len(cases)} cases, {wrong} wrong")
+    return wrong
+
+
+def check_runs(name, runs):
+    count = wrong = 0
+    for what, written, expected in runs:
+        count += 1
+        if written != expected:
+            print(f"{name}, {what}: {short(written)!r}, not {short(expected)!r}")
+            wrong += 1
+    print(f"{name}: {count} runs, {wrong} wrong")
+    return wrong if count else 1
+
+
+def driver_runs(program):
+    for what, given, expected in importlib.import_module("driver").runs():
+        yield what, run(program, given, CASES), expected
+
+
+def shop_runs(program):
+    """Each run in a folder with its model.lvs alone."""
+    for what, model, given, expected in importlib.import_module("shop").runs():
+        with tempfile.TemporaryDirectory() as folder:
+            if model is not None:
+                (pathlib.Path(folder) / "model.lvs").write_bytes(model)
+            yield what, run(program, given, folder), expected
+
+
+def example_is_document_01s():
+    """What rt itself runs lvs_check on is the first of shop.py's answers."""
+    _, model, given, expected = next(importlib.import_module("shop").answers())
+    crate = ROOT / "crates/lvs_check"
+    parts = (crate / "data/model.lvs", model), (crate / "stdin", given), (crate / "stdout", expected.encode())
+    different = [file.name for file, contents in parts if file.read_bytes() != contents]
+    if different:
+        print(f"crates/lvs_check: not document 01's example: {', '.join(different)}")
+    return len(different)
+
+
+def main():
+    words = sys.argv[1:]
+    if words[:1] == ["--store"]:
+        store()
+        words = words[1:]
+    programs = pathlib.Path(words[0]).resolve() if words else ROOT / "target/bin"
+    wrong = sum(check_table(name, programs / "lvs_cases") for name in TABLES)
+    wrong += check_runs("driver", driver_runs(programs / "lvs_cases"))
+    wrong += check_runs("shop", shop_runs(programs / "lvs_check"))
+    wrong += example_is_document_01s()
+    return 1 if wrong else 0
+
+
+if __name__ == "__main__":
+    sys.exit(main())
