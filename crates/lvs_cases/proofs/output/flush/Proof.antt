@@ -1,0 +1,23 @@
+use mathlib.Core.Path.{sym}
+use lib.Seq.{length-take-le}
+use borrow.Author.Needs.{needs}
+use Rattle.lvs_cases.proofs.output.flush.Statement.{statement}
+use Rattle.lvs_cases.proofs.output.flush.Tie as tie
+use Rattle.lvs_cases.proofs.output.flush.Reads as reads
+use Rattle.lvs_cases.proofs.output.flush.Lts as lts
+use Rattle.io.proofs.write_all.Reads as write-all-reads
+
+-- src/output.rt:71:34
+slice-aggregate-write-all : tie.Need-slice-aggregate-write-all
+slice-aggregate-write-all c = sym (length-take-le _ _ (search needs))
+
+-- src/output.rt:71:5
+write-all-requires : tie.Need-write-all-requires
+write-all-requires c κs = search needs
+
+-- src/output.rt:68:1
+returns : tie.Need-returns
+returns c = search needs
+
+pub flush-spec : {M : Type 1} → statement M
+flush-spec = tie.close (tie.spec slice-aggregate-write-all write-all-requires returns)
