@@ -1,14 +1,10 @@
+-- `lvs_cases::answer_cases`: between two cases what is read ahead and what is gathered stay within their buffers. Assumes nothing.
 use Prim.Native.Nat.{_≤_}
 use mathlib.Core.Path.{_≡_}
 use lib.ListN.{length}
 use borrow.Author.Needs.{needs}
-use Rattle.lvs_cases.proofs.answer_cases.Statement.{statement}
 use Rattle.lvs_cases.proofs.answer_cases.Tie as tie
-use Rattle.lvs_cases.proofs.answer_cases.Reads as reads
-use Rattle.lvs_cases.proofs.answer_cases.Lts as lts
-use Rattle.lvs_cases.proofs.answer_case.Reads as answer-case-reads
-use Rattle.lvs_cases.proofs.input.take.Reads as take-reads
-use Rattle.lvs_cases.proofs.output.put.Reads as put-reads
+use Rattle.lvs_cases.proofs.answer_cases.Statement.{statement}
 
 abbrev Inv-loop : tie.InvT-loop
 Inv-loop space₀ model₀ out₀ input₀ used₀ turns₀ t11 space model out input used turns = (input .end ≤ 65536) × (used ≤ 65536) × (length model ≡ length model₀)
@@ -16,67 +12,51 @@ Inv-loop space₀ model₀ out₀ input₀ used₀ turns₀ t11 space model out 
 abbrev μ-loop : tie.MeasureT-loop
 μ-loop space₀ model₀ out₀ input₀ used₀ turns₀ t11 space model out input used turns = turns
 
--- src/main.rt:43:5
 loop-holds : tie.Need-loop-holds Inv-loop μ-loop
 loop-holds c = search needs
 
--- src/main.rt:44:9
 sub-turns : tie.Need-sub-turns Inv-loop μ-loop
 sub-turns c = search needs
 
--- src/main.rt:46:47
 slice-aggregate-take : tie.Need-slice-aggregate-take Inv-loop μ-loop
 slice-aggregate-take c = search needs
 
--- src/main.rt:46:13
 take-requires : tie.Need-take-requires Inv-loop μ-loop
 take-requires c κs = search needs
 
--- src/main.rt:48:13
 same-length : tie.Need-same-length Inv-loop μ-loop
 same-length c = search needs
 
--- src/main.rt:48:13
 returns : tie.Need-returns Inv-loop μ-loop
 returns c = search needs
 
--- src/main.rt:51:32
 array-read-answer-case : tie.Need-array-read-answer-case Inv-loop μ-loop
 array-read-answer-case c = search needs
 
--- src/main.rt:51:13
 answer-case-requires : tie.Need-answer-case-requires Inv-loop μ-loop
 answer-case-requires c κs = search needs
 
--- src/main.rt:53:48
 slice-aggregate-put : tie.Need-slice-aggregate-put Inv-loop μ-loop
 slice-aggregate-put c = search needs
 
--- src/main.rt:53:13
 put-requires : tie.Need-put-requires Inv-loop μ-loop
 put-requires c κs = search needs
 
--- src/main.rt:53:13
 same-length-2 : tie.Need-same-length-2 Inv-loop μ-loop
 same-length-2 c = search needs
 
--- src/main.rt:53:13
 returns-2 : tie.Need-returns-2 Inv-loop μ-loop
 returns-2 c = search needs
 
--- src/main.rt:43:5
 loop-less : tie.Need-loop-less Inv-loop μ-loop
 loop-less c = search needs
 
--- src/main.rt:43:5
 loop-again : tie.Need-loop-again Inv-loop μ-loop
 loop-again c = search needs
 
--- src/main.rt:37:1
 same-length-3 : tie.Need-same-length-3 Inv-loop μ-loop
 same-length-3 c = search needs
 
--- src/main.rt:37:1
 returns-3 : tie.Need-returns-3 Inv-loop μ-loop
 returns-3 c = search needs
 

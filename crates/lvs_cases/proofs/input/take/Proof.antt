@@ -1,13 +1,11 @@
+-- `lvs_cases::input::take`: what is read ahead stays within the buffer, and the part keeps its length. Assumes nothing.
 use Prim.Native.Nat.{_≤_, _-_}
 use mathlib.Core.Path.{_≡_}
 use lib.ListN.{length, length-set}
 use native.Mathlib.Omega.{arith}
 use borrow.Author.Needs.{needs}
-use Rattle.lvs_cases.proofs.input.take.Statement.{statement}
 use Rattle.lvs_cases.proofs.input.take.Tie as tie
-use Rattle.lvs_cases.proofs.input.take.Reads as reads
-use Rattle.lvs_cases.proofs.input.take.Lts as lts
-use Rattle.lvs_cases.proofs.input.read_ahead.Reads as read-ahead-reads
+use Rattle.lvs_cases.proofs.input.take.Statement.{statement}
 
 abbrev Inv-loop : tie.InvT-loop
 Inv-loop space₀ part₀ input₀ count₀ space part input count = (input .end ≤ 65536) × (count ≤ length part) × (length part ≡ length part₀)
@@ -15,51 +13,39 @@ Inv-loop space₀ part₀ input₀ count₀ space part input count = (input .end
 abbrev μ-loop : tie.MeasureT-loop
 μ-loop space₀ part₀ input₀ count₀ space part input count = length part - count
 
--- src/input.rt:32:5
 loop-holds : tie.Need-loop-holds Inv-loop μ-loop
 loop-holds c = search needs
 
--- src/input.rt:33:9
 read-ahead-requires : tie.Need-read-ahead-requires Inv-loop μ-loop
 read-ahead-requires c κs = search needs
 
--- src/input.rt:37:13
 same-length : tie.Need-same-length Inv-loop μ-loop
 same-length c = search needs
 
--- src/input.rt:37:13
 returns : tie.Need-returns Inv-loop μ-loop
 returns c = search needs
 
--- src/input.rt:39:23
 element-copy-out-part : tie.Need-element-copy-out-part Inv-loop μ-loop
 element-copy-out-part c = search needs
 
--- src/input.rt:39:9
 slice-write-part : tie.Need-slice-write-part Inv-loop μ-loop
 slice-write-part c = search needs
 
--- src/input.rt:40:29
 add-t8 : tie.Need-add-t8 Inv-loop μ-loop
 add-t8 c = search needs
 
--- src/input.rt:41:9
 add-count : tie.Need-add-count Inv-loop μ-loop
 add-count c = search needs
 
--- src/input.rt:32:5
 loop-less : tie.Need-loop-less Inv-loop μ-loop
 loop-less c = simp length-set (omega arith)
 
--- src/input.rt:32:5
 loop-again : tie.Need-loop-again Inv-loop μ-loop
 loop-again c = (search needs, simp length-set (omega arith), simp length-set (omega arith))
 
--- src/input.rt:26:1
 same-length-2 : tie.Need-same-length-2 Inv-loop μ-loop
 same-length-2 c = search needs
 
--- src/input.rt:26:1
 returns-2 : tie.Need-returns-2 Inv-loop μ-loop
 returns-2 c = search needs
 

@@ -1,21 +1,16 @@
+-- `lvs_cases::output::flush` lends the front of the buffer. Assumes nothing.
 use mathlib.Core.Path.{sym}
 use lib.Seq.{length-take-le}
 use borrow.Author.Needs.{needs}
-use Rattle.lvs_cases.proofs.output.flush.Statement.{statement}
 use Rattle.lvs_cases.proofs.output.flush.Tie as tie
-use Rattle.lvs_cases.proofs.output.flush.Reads as reads
-use Rattle.lvs_cases.proofs.output.flush.Lts as lts
-use Rattle.io.proofs.write_all.Reads as write-all-reads
+use Rattle.lvs_cases.proofs.output.flush.Statement.{statement}
 
--- src/output.rt:71:34
 slice-aggregate-write-all : tie.Need-slice-aggregate-write-all
 slice-aggregate-write-all c = sym (length-take-le _ _ (search needs))
 
--- src/output.rt:71:5
 write-all-requires : tie.Need-write-all-requires
 write-all-requires c κs = search needs
 
--- src/output.rt:68:1
 returns : tie.Need-returns
 returns c = search needs
 

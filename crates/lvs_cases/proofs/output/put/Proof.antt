@@ -1,12 +1,9 @@
+-- `lvs_cases::output::put`: the buffer never holds more than it has room for. Assumes nothing.
 use Prim.Native.Nat.{_≤_, _-_}
 use lib.ListN.{length}
-use native.Mathlib.Omega.{arith}
 use borrow.Author.Needs.{needs}
-use Rattle.lvs_cases.proofs.output.put.Statement.{statement}
 use Rattle.lvs_cases.proofs.output.put.Tie as tie
-use Rattle.lvs_cases.proofs.output.put.Reads as reads
-use Rattle.lvs_cases.proofs.output.put.Lts as lts
-use Rattle.lvs_cases.proofs.output.room.Reads as room-reads
+use Rattle.lvs_cases.proofs.output.put.Statement.{statement}
 
 abbrev Inv-loop : tie.InvT-loop
 Inv-loop out₀ used text at₀ i₀ out at i = at ≤ 65536
@@ -14,39 +11,30 @@ Inv-loop out₀ used text at₀ i₀ out at i = at ≤ 65536
 abbrev μ-loop : tie.MeasureT-loop
 μ-loop out₀ used text at₀ i₀ out at i = length text - i
 
--- src/output.rt:13:5
 loop-holds : tie.Need-loop-holds Inv-loop μ-loop
 loop-holds c = search needs
 
--- src/output.rt:14:9
 room-requires : tie.Need-room-requires Inv-loop μ-loop
 room-requires c κs = search needs
 
--- src/output.rt:15:19
 shared-slice-read-out : tie.Need-shared-slice-read-out Inv-loop μ-loop
 shared-slice-read-out c = search needs
 
--- src/output.rt:15:9
 element-write-out : tie.Need-element-write-out Inv-loop μ-loop
 element-write-out c = search needs
 
--- src/output.rt:16:9
 add-at : tie.Need-add-at Inv-loop μ-loop
 add-at c = search needs
 
--- src/output.rt:17:9
 add-i : tie.Need-add-i Inv-loop μ-loop
 add-i c = search needs
 
--- src/output.rt:13:5
 loop-less : tie.Need-loop-less Inv-loop μ-loop
 loop-less c = search needs
 
--- src/output.rt:13:5
 loop-again : tie.Need-loop-again Inv-loop μ-loop
 loop-again c = search needs
 
--- src/output.rt:7:1
 returns : tie.Need-returns Inv-loop μ-loop
 returns c = search needs
 

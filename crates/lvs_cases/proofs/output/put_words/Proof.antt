@@ -1,11 +1,9 @@
+-- `lvs_cases::output::put_words`: the buffer never holds more than it has room for. Assumes nothing.
 use Prim.Native.Nat.{_≤_, _-_}
 use lib.ListN.{length}
 use borrow.Author.Needs.{needs}
-use Rattle.lvs_cases.proofs.output.put_words.Statement.{statement}
 use Rattle.lvs_cases.proofs.output.put_words.Tie as tie
-use Rattle.lvs_cases.proofs.output.put_words.Reads as reads
-use Rattle.lvs_cases.proofs.output.put_words.Lts as lts
-use Rattle.lvs_cases.proofs.output.put_word.Reads as put-word-reads
+use Rattle.lvs_cases.proofs.output.put_words.Statement.{statement}
 
 abbrev Inv-loop : tie.InvT-loop
 Inv-loop out₀ used words at₀ i₀ out at i = at ≤ 65536
@@ -13,35 +11,27 @@ Inv-loop out₀ used words at₀ i₀ out at i = at ≤ 65536
 abbrev μ-loop : tie.MeasureT-loop
 μ-loop out₀ used words at₀ i₀ out at i = length words - i
 
--- src/output.rt:60:5
 loop-holds : tie.Need-loop-holds Inv-loop μ-loop
 loop-holds c = search needs
 
--- src/output.rt:61:32
 mul-put-word : tie.Need-mul-put-word Inv-loop μ-loop
 mul-put-word c = search needs
 
--- src/output.rt:61:32
 shared-slice-read-put-word : tie.Need-shared-slice-read-put-word Inv-loop μ-loop
 shared-slice-read-put-word c = search needs
 
--- src/output.rt:61:9
 put-word-requires : tie.Need-put-word-requires Inv-loop μ-loop
 put-word-requires c κs = search needs
 
--- src/output.rt:62:9
 add-i : tie.Need-add-i Inv-loop μ-loop
 add-i c = search needs
 
--- src/output.rt:60:5
 loop-less : tie.Need-loop-less Inv-loop μ-loop
 loop-less c = search needs
 
--- src/output.rt:60:5
 loop-again : tie.Need-loop-again Inv-loop μ-loop
 loop-again c = search needs
 
--- src/output.rt:54:1
 returns : tie.Need-returns Inv-loop μ-loop
 returns c = search needs
 
