@@ -1,6 +1,7 @@
 // Standard input, read ahead into a buffer that is lent.
 ghost use Prim.Native.Nat.{_≤_};
 ghost use lib.ListN.{length};
+ghost use Rattle.io.specs.Counts.{Counts};
 use libc::STDIN_FILENO;
 
 // The bytes of the buffer from at to end are read and not taken yet.
@@ -23,28 +24,37 @@ pub struct Field {
 }
 
 // Fills part with the next bytes.
-pub fn take(space: &mut [u8; 65536], input: Input, part: &mut [u8]) -> Taken
-    requires { ⌜ input .end ≤ 65536 ⌝ }
+pub fn take(space: &mut [u8; 65536], from: Input, part: &mut [u8]) -> Taken
+    requires { ⌜ from .end ≤ 65536 ⌝ }
     ensures { λ r. ⌜ (r .count ≤ length (now (part .exit))) × (r .input .end ≤ 65536) ⌝ }
 {
-    let mut at = input.at;
-    let mut end = input.end;
+    let mut input = from;
     let mut count = 0;
     while count < part.len() {
+        input = read_ahead(space, input);
+        let at = input.at;
+        let end = input.end;
         if at >= end {
-            end = read_some(space);
-            at = 0;
-            if end == 0 {
-                break;
-            }
+            return Taken { count, input };
         }
         part[count] = space[at];
-        at += 1;
+        input = Input { at: at + 1, end };
         count += 1;
     }
-    Taken {
-        count,
-        input: Input { at, end },
+    Taken { count, input }
+}
+
+// Reads on, once, where all is taken. At the end of the input nothing is read ahead then.
+fn read_ahead(space: &mut [u8; 65536], input: Input) -> Input
+    requires { ⌜ input .end ≤ 65536 ⌝ }
+    ensures { λ r. ⌜ r .end ≤ 65536 ⌝ }
+{
+    if input.at < input.end {
+        return input;
+    }
+    Input {
+        at: 0,
+        end: read_some(space),
     }
 }
 
@@ -56,9 +66,9 @@ fn read_some(space: &mut [u8; 65536]) -> usize
 }
 
 // Takes a 4-byte length (high byte first) and that many bytes. A length above what part holds is not a whole field.
-pub fn field(space: &mut [u8; 65536], input: Input, part: &mut [u8]) -> Field
+pub fn take_field(space: &mut [u8; 65536], input: Input, part: &mut [u8]) -> Field
     requires { ⌜ input .end ≤ 65536 ⌝ }
-    ensures { λ r. ⌜ (r .count ≤ length (now (part .exit))) × (r .input .end ≤ 65536) ⌝ }
+    ensures { λ r. ⌜ Counts (r .count) (now (part .exit)) × (r .input .end ≤ 65536) ⌝ }
 {
     let mut head = [0u8; 4];
     let taken = take(space, input, &mut head);

@@ -4,7 +4,9 @@
 // A case is one letter, then its fields, each a 4-byte length (high byte first) and that many bytes: `V` model; `M` model, packet name,
 // binding words (4 bytes each, high byte first); `S` model, packet name, key name. Each gets one line. A field that is too long, a cut
 // case or another letter prints `broken` and ends.
-ghost use Prim.Native.Nat.{_≤_};
+ghost use Prim.Native.Nat.{_+_, _*_, _≤_, _<_};
+ghost use lib.ListN.{length};
+ghost use Rattle.io.specs.Counts.{Counts};
 
 mod input;
 mod output;
@@ -15,8 +17,6 @@ use lvs::SignAnswer;
 use lvs::Verdict;
 
 const NAME_BYTES: usize = 4096;
-
-const WORDS: usize = 1024;
 
 // Where input and output stand behind a case, and whether it was a whole one.
 struct Turn {
@@ -29,12 +29,16 @@ fn main() {
     let mut space = [0u8; 65536];
     let mut model = [0u8; 65536];
     let mut out = [0u8; 65536];
-    let used = answer_cases(&mut space, &mut model, &mut out);
-    output::flush(&out, used);
+    answer_input(&mut space, &mut model, &mut out);
+}
+
+fn answer_input(space: &mut [u8; 65536], model: &mut [u8], out: &mut [u8; 65536]) {
+    let used = answer_cases(space, model, out);
+    output::flush(out, used);
 }
 
 // Nothing says that the input ends, so the loop counts its turns down, from a number that no run uses up.
-fn answer_cases(space: &mut [u8; 65536], model: &mut [u8; 65536], out: &mut [u8; 65536]) -> usize
+fn answer_cases(space: &mut [u8; 65536], model: &mut [u8], out: &mut [u8; 65536]) -> usize
     ensures { λ r. ⌜ r ≤ 65536 ⌝ }
 {
     let mut input = Input { at: 0, end: 0 };
@@ -62,14 +66,14 @@ fn answer_case(
     letter: u8,
     space: &mut [u8; 65536],
     input: Input,
-    model: &mut [u8; 65536],
+    model: &mut [u8],
     out: &mut [u8; 65536],
     used: usize,
 ) -> Turn
     requires { ⌜ (input .end ≤ 65536) × (used ≤ 65536) ⌝ }
     ensures { λ r. ⌜ (r .input .end ≤ 65536) × (r .used ≤ 65536) ⌝ }
 {
-    let field = input::field(space, input, model);
+    let field = input::take_field(space, input, model);
     let behind = field.input;
     if !field.is_whole {
         return Turn {
@@ -80,11 +84,14 @@ fn answer_case(
     }
     let n = field.count;
     match letter {
-        b'V' => Turn {
-            is_whole: true,
-            input: behind,
-            used: put_verdict(out, used, lvs::judge_model(&model[..n])),
-        },
+        b'V' => {
+            let at = put_verdict(out, used, lvs::judge_model(&model[..n]));
+            Turn {
+                is_whole: true,
+                input: behind,
+                used: output::put(out, at, b"\n"),
+            }
+        }
         b'M' => answer_match(space, behind, &model[..n], out, used),
         b'S' => answer_sign(space, behind, &model[..n], out, used),
         _ => Turn {
@@ -107,8 +114,8 @@ fn answer_match(
 {
     let mut name = [0u8; NAME_BYTES];
     let mut bytes = [0u8; 4096];
-    let mut words = [0u32; WORDS];
-    let first = input::field(space, input, &mut name);
+    let mut words = [0u32; 1024];
+    let first = input::take_field(space, input, &mut name);
     let n = first.count;
     let middle = first.input;
     if !first.is_whole {
@@ -118,7 +125,7 @@ fn answer_match(
             used,
         };
     }
-    let second = input::field(space, middle, &mut bytes);
+    let second = input::take_field(space, middle, &mut bytes);
     let count = second.count;
     let behind = second.input;
     if !second.is_whole {
@@ -135,25 +142,57 @@ fn answer_match(
             used,
         };
     }
-    let k = count / 4;
-    read_words(&bytes, &mut words);
-    let answer = lvs::match_name(model, &name[..n], &mut words[..k]);
+    let k = read_words(&bytes[..count], &mut words);
     Turn {
         is_whole: true,
         input: behind,
-        used: put_match(out, used, answer, &words[..k]),
+        used: match_line(model, &name[..n], &mut words[..k], out, used),
     }
 }
 
-fn read_words(bytes: &[u8; 4096], words: &mut [u32; 1024]) {
+// The call's answer and all words after it.
+fn match_line(
+    model: &[u8],
+    name: &[u8],
+    words: &mut [u32],
+    out: &mut [u8; 65536],
+    used: usize,
+) -> usize
+    requires { ⌜ used ≤ 65536 ⌝ }
+    ensures { λ r. ⌜ r ≤ 65536 ⌝ }
+{
+    let answer = lvs::match_name(model, name, words);
+    let at = put_match(out, used, answer);
+    let last = output::put_words(out, at, words);
+    output::put(out, last, b"\n")
+}
+
+// The words in bytes, as many as there is room for.
+fn read_words(bytes: &[u8], words: &mut [u32]) -> usize
+    ensures { λ r. ⌜ Counts r (now (words .exit)) ⌝ }
+{
+    let n = least(bytes.len() / 4, words.len());
     let mut i = 0;
-    while i < words.len() {
-        let at = i * 4;
-        let high = long(bytes[at]) * 256 + long(bytes[at + 1]);
-        let low = long(bytes[at + 2]) * 256 + long(bytes[at + 3]);
-        words[i] = high * 65536 + low;
+    while i < n {
+        words[i] = word_at(bytes, i);
         i += 1;
     }
+    n
+}
+
+fn least(a: usize, b: usize) -> usize
+    ensures { λ r. ⌜ (r ≤ a) × (r ≤ b) ⌝ }
+{
+    if a < b { a } else { b }
+}
+
+fn word_at(bytes: &[u8], i: usize) -> u32
+    requires { ⌜ i * 4 + 3 < length (now bytes) ⌝ }
+{
+    let at = i * 4;
+    let high = long(bytes[at]) * 256 + long(bytes[at + 1]);
+    let low = long(bytes[at + 2]) * 256 + long(bytes[at + 3]);
+    high * 65536 + low
 }
 
 fn long(b: u8) -> u32
@@ -174,7 +213,7 @@ fn answer_sign(
 {
     let mut packet = [0u8; NAME_BYTES];
     let mut key = [0u8; NAME_BYTES];
-    let first = input::field(space, input, &mut packet);
+    let first = input::take_field(space, input, &mut packet);
     let n = first.count;
     let middle = first.input;
     if !first.is_whole {
@@ -184,7 +223,7 @@ fn answer_sign(
             used,
         };
     }
-    let second = input::field(space, middle, &mut key);
+    let second = input::take_field(space, middle, &mut key);
     let m = second.count;
     let behind = second.input;
     if !second.is_whole {
@@ -194,10 +233,11 @@ fn answer_sign(
             used,
         };
     }
+    let at = put_sign(out, used, lvs::sign(model, &packet[..n], &key[..m]));
     Turn {
         is_whole: true,
         input: behind,
-        used: put_sign(out, used, lvs::sign(model, &packet[..n], &key[..m])),
+        used: output::put(out, at, b"\n"),
     }
 }
 
@@ -205,18 +245,17 @@ fn put_verdict(out: &mut [u8; 65536], used: usize, verdict: Verdict) -> usize
     requires { ⌜ used ≤ 65536 ⌝ }
     ensures { λ r. ⌜ r ≤ 65536 ⌝ }
 {
-    let at = match verdict {
+    match verdict {
         Verdict::Accepted { nodes } => put_accepted(out, used, nodes),
         Verdict::Refused { number, node } => put_refused(out, used, number, node),
-    };
-    output::put(out, at, b"\n")
+    }
 }
 
-fn put_match(out: &mut [u8; 65536], used: usize, answer: MatchAnswer, words: &[u32]) -> usize
+fn put_match(out: &mut [u8; 65536], used: usize, answer: MatchAnswer) -> usize
     requires { ⌜ used ≤ 65536 ⌝ }
     ensures { λ r. ⌜ r ≤ 65536 ⌝ }
 {
-    let at = match answer {
+    match answer {
         MatchAnswer::Match { node, bound } => output::put_pair(
             out,
             used,
@@ -226,16 +265,14 @@ fn put_match(out: &mut [u8; 65536], used: usize, answer: MatchAnswer, words: &[u
         ),
         MatchAnswer::NoMatch => output::put(out, used, b"no match"),
         MatchAnswer::Refused { number, node } => put_refused(out, used, number, node),
-    };
-    let behind = output::put_words(out, at, words);
-    output::put(out, behind, b"\n")
+    }
 }
 
 fn put_sign(out: &mut [u8; 65536], used: usize, answer: SignAnswer) -> usize
     requires { ⌜ used ≤ 65536 ⌝ }
     ensures { λ r. ⌜ r ≤ 65536 ⌝ }
 {
-    let at = match answer {
+    match answer {
         SignAnswer::Allowed { packet, key } => output::put_pair(
             out,
             used,
@@ -245,8 +282,7 @@ fn put_sign(out: &mut [u8; 65536], used: usize, answer: SignAnswer) -> usize
         ),
         SignAnswer::NotAllowed => output::put(out, used, b"not allowed"),
         SignAnswer::Refused { number, node } => put_refused(out, used, number, node),
-    };
-    output::put(out, at, b"\n")
+    }
 }
 
 fn put_accepted(out: &mut [u8; 65536], used: usize, nodes: u32) -> usize

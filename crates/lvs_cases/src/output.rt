@@ -1,5 +1,6 @@
 // Standard output, gathered in a buffer that is lent; `used` of its bytes are not written yet.
-ghost use Prim.Native.Nat.{_≤_};
+ghost use Prim.Native.Nat.{_≤_, _<_};
+ghost use lib.ListN.{length};
 use libc::STDOUT_FILENO;
 
 // Puts text behind what is there, and answers how much is used then.
@@ -10,15 +11,23 @@ pub fn put(out: &mut [u8; 65536], used: usize, text: &[u8]) -> usize
     let mut at = used;
     let mut i = 0;
     while i < text.len() {
-        if at == out.len() {
-            io::write_all(STDOUT_FILENO, out);
-            at = 0;
-        }
+        at = room(out, at);
         out[at] = text[i];
         at += 1;
         i += 1;
     }
     at
+}
+
+// The place for the next byte: a full buffer is written and begun anew.
+fn room(out: &[u8], used: usize) -> usize
+    ensures { λ r. ⌜ r < 65536 ⌝ }
+{
+    if used < 65536 {
+        return used;
+    }
+    io::write_all(STDOUT_FILENO, out);
+    0
 }
 
 pub fn put_number(out: &mut [u8; 65536], used: usize, n: u64) -> usize
@@ -49,15 +58,22 @@ pub fn put_words(out: &mut [u8; 65536], used: usize, words: &[u32]) -> usize
     let mut at = used;
     let mut i = 0;
     while i < words.len() {
-        at = put(out, at, b" ");
-        at = put_number(out, at, words[i] as u64);
+        at = put_word(out, at, words[i]);
         i += 1;
     }
     at
 }
 
-pub fn flush(out: &[u8; 65536], used: usize)
+fn put_word(out: &mut [u8; 65536], used: usize, word: u32) -> usize
     requires { ⌜ used ≤ 65536 ⌝ }
+    ensures { λ r. ⌜ r ≤ 65536 ⌝ }
+{
+    let at = put(out, used, b" ");
+    put_number(out, at, word as u64)
+}
+
+pub fn flush(out: &[u8], used: usize)
+    requires { ⌜ used ≤ length (now out) ⌝ }
 {
     io::write_all(STDOUT_FILENO, &out[..used]);
 }
