@@ -104,6 +104,27 @@ def example_is_document_01s():
     return len(different)
 
 
+def check_uris():
+    """tools/name.py, and the example that is made with it: 003's tutorial."""
+    uris, tutorial = importlib.import_module("uris"), importlib.import_module("document_003")
+    name = importlib.import_module("name")  # tools/name.py, which build.py brings
+    wrong = [uri for uri, data in uris.NAMES if name.name(uri) != bytes.fromhex(data)]
+    for uri in uris.NO_NAMES:
+        try:
+            name.name(uri)
+            wrong.append(uri)
+        except ValueError:
+            pass
+    if list(name.pairs((ROOT / "example/requests.txt").open())) != [[packet, key] for packet, key, _ in tutorial.TUTORIAL_CHECKS]:
+        wrong.append("example/requests.txt")
+    if (ROOT / "example/model.lvs").read_bytes() != tutorial.TUTORIAL:
+        wrong.append("example/model.lvs")
+    for uri in wrong:
+        print(f"uris, {uri!r}")
+    print(f"uris: {len(uris.NAMES) + len(uris.NO_NAMES)} URIs, {len(wrong)} wrong")
+    return len(wrong)
+
+
 def main():
     words = sys.argv[1:]
     if words[:1] == ["--store"]:
@@ -114,6 +135,7 @@ def main():
     wrong += check_runs("driver", driver_runs(programs / "lvs_cases"))
     wrong += check_runs("shop", shop_runs(programs / "lvs_check"))
     wrong += example_is_document_01s()
+    wrong += check_uris()
     return 1 if wrong else 0
 
 

@@ -1,4 +1,9 @@
 """Models, names and cases in bytes, written the way document 01 describes them. Nothing is checked here: faults are wanted too."""
+import pathlib
+import sys
+
+sys.path.append(str(pathlib.Path(__file__).resolve().parents[2] / "tools"))
+from name import element, name as path, number, request, shortest_integer  # path: a name from its URI
 
 # types of elements (source document 000)
 NAME, GENERIC = 0x07, 0x08
@@ -10,26 +15,9 @@ VERSION, NODE, SYMBOL, PATTERN_COUNT = 0x61, 0x63, 0x67, 0x69
 GOOD_VERSION = 0x00011000
 
 
-def number(n):
-    """A type or a length, in the shortest form."""
-    if n < 253:
-        return bytes([n])
-    if n < 1 << 16:
-        return b"\xfd" + n.to_bytes(2, "big")
-    if n < 1 << 32:
-        return b"\xfe" + n.to_bytes(4, "big")
-    return b"\xff" + n.to_bytes(8, "big")
-
-
-def element(typ, *inside):
-    inside = b"".join(inside)
-    return number(typ) + number(len(inside)) + inside
-
-
 def integer(typ, n, size=None):
     """An integer of `size` bytes; of the fewest that hold it where no size is given."""
-    size = size or next(size for size in (1, 2, 4, 8) if n < 1 << 8 * size)
-    return element(typ, n.to_bytes(size, "big"))
+    return element(typ, n.to_bytes(size, "big") if size else shortest_integer(n))
 
 
 def component(text, typ=GENERIC):
@@ -39,11 +27,6 @@ def component(text, typ=GENERIC):
 def name(*components):
     """A name of generic components; one in bytes is an element already."""
     return element(NAME, *(c if isinstance(c, bytes) else component(c) for c in components))
-
-
-def path(uri):
-    """/a/b as a name of generic components."""
-    return name(*uri.strip("/").split("/")) if uri.strip("/") else name()
 
 
 def value(text):

@@ -5,11 +5,8 @@ from document_003 import QUICK, QUICK_CHECKS, TUTORIAL, TUTORIAL_CHECKS
 
 
 def names(packet, key):
-    return len(packet).to_bytes(2, "big") + packet + len(key).to_bytes(2, "big") + key
-
-
-def request(packet, key):
-    return b"\x4d\x4b" + names(packet, key)
+    """A request without its mark."""
+    return request(packet, key)[2:]
 
 
 GOOD = request(SLASH_A, SLASH_A)
