@@ -1,0 +1,132 @@
+//! The match call and the signing call.
+
+use std::fmt;
+use std::ops::ControlFlow;
+
+use crate::model::Model;
+use crate::names::{Name, PlacedComponent, Role};
+use crate::verdict::{load, Reason, Refusal, MAX_TAG};
+use crate::walk::{visit_matches, Bindings};
+
+/// The words that a binding buffer needs: two for each Tag.
+pub const BINDING_WORDS: usize = 2 * MAX_TAG as usize;
+
+/// What the match call answers.
+#[derive(Clone, Copy, Debug, PartialEq, Eq)]
+pub enum MatchAnswer {
+    /// The first match: its node and how many Tags are bound.
+    Match {
+        node: usize,
+        bound: usize,
+    },
+    NoMatch,
+    Refused(Refusal),
+}
+
+impl fmt::Display for MatchAnswer {
+    fn fmt(&self, f: &mut fmt::Formatter<'_>) -> fmt::Result {
+        match self {
+            MatchAnswer::Match { node, bound } => write!(f, "match {node} {bound}"),
+            MatchAnswer::NoMatch => write!(f, "no match"),
+            MatchAnswer::Refused(refusal) => refusal.fmt(f),
+        }
+    }
+}
+
+/// What the signing call answers.
+#[derive(Clone, Copy, Debug, PartialEq, Eq)]
+pub enum SignAnswer {
+    /// The first pair of a packet node and a key node among its signers.
+    Allowed {
+        packet: usize,
+        key: usize,
+    },
+    NotAllowed,
+    Refused(Refusal),
+}
+
+impl fmt::Display for SignAnswer {
+    fn fmt(&self, f: &mut fmt::Formatter<'_>) -> fmt::Result {
+        match self {
+            SignAnswer::Allowed { packet, key } => write!(f, "allowed {packet} {key}"),
+            SignAnswer::NotAllowed => write!(f, "not allowed"),
+            SignAnswer::Refused(refusal) => refusal.fmt(f),
+        }
+    }
+}
+
+/// The first match of a name. On a match the buffer's first words hold each
+/// Tag's start and length, 0 and 0 if unbound; otherwise it is kept.
+pub fn match_name(model: &[u8], name: &[u8], buffer: &mut [u32]) -> MatchAnswer {
+    try_match(model, name, buffer).unwrap_or_else(MatchAnswer::Refused)
+}
+
+fn try_match(model: &[u8], name: &[u8], buffer: &mut [u32]) -> Result<MatchAnswer, Refusal> {
+    let model = load(model)?;
+    let name = Name::load(name, Role::Packet)?;
+    let words = buffer
+        .get_mut(..BINDING_WORDS)
+        .ok_or(Reason::BufferTooShort)?;
+    let first = visit_matches(
+        &model,
+        &name.components,
+        &mut Bindings::default(),
+        &mut |node, bindings| {
+            write_bindings(bindings, words);
+            ControlFlow::Break(MatchAnswer::Match {
+                node,
+                bound: bindings.count(),
+            })
+        },
+    );
+    Ok(first.break_value().unwrap_or(MatchAnswer::NoMatch))
+}
+
+fn write_bindings(bindings: &Bindings, words: &mut [u32]) {
+    for (slot, pair) in bindings.slots().iter().zip(words.chunks_exact_mut(2)) {
+        let (start, length) = slot.map_or((0, 0), |bound| (bound.start, bound.length));
+        pair.copy_from_slice(&[start, length]);
+    }
+}
+
+/// Whether a key of this name may sign a packet of that name.
+pub fn sign(model: &[u8], packet: &[u8], key: &[u8]) -> SignAnswer {
+    try_sign(model, packet, key).unwrap_or_else(SignAnswer::Refused)
+}
+
+fn try_sign(model: &[u8], packet: &[u8], key: &[u8]) -> Result<SignAnswer, Refusal> {
+    let model = load(model)?;
+    let packet = Name::load(packet, Role::Packet)?;
+    let key = Name::load(key, Role::Key)?;
+    let first = visit_matches(
+        &model,
+        &packet.components,
+        &mut Bindings::default(),
+        &mut |packet_node, bindings| {
+            let signers = &model.nodes[packet_node].signers;
+            first_signer(&model, &key.components, bindings, signers).map_break(|key_node| {
+                SignAnswer::Allowed {
+                    packet: packet_node,
+                    key: key_node,
+                }
+            })
+        },
+    );
+    Ok(first.break_value().unwrap_or(SignAnswer::NotAllowed))
+}
+
+/// The first match of the key, under the packet's bindings, that is a signer.
+fn first_signer<'n>(
+    model: &Model,
+    key: &[PlacedComponent<'n>],
+    bindings: &mut Bindings<'n>,
+    signers: &[u64],
+) -> ControlFlow<usize> {
+    visit_matches(model, key, bindings, &mut |node, _| {
+        if signers.contains(&(node as u64)) {
+            ControlFlow::Break(node)
+        } else {
+            ControlFlow::Continue(())
+        }
+    })
+}

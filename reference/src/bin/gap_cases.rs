@@ -1,0 +1,138 @@
+//! Demand 3 as cases: what unknown elements and another version change.
+//!
+//! For each generated case whose model is read: the case itself, the same with
+//! its bare model, with an optional element in each gap, with a critical one in
+//! each gap, and with another version. Cases go to standard output, and the
+//! lines that they must get to the file LINES.
+//! Arguments: seed, number of generated cases, LINES.
+
+use std::env;
+use std::fs::File;
+use std::io::{self, BufWriter, Write};
+use std::process::ExitCode;
+
+use lvs_reference::cases::Case;
+use lvs_reference::elements::{append_element, kind, Element};
+use lvs_reference::gen::{self, critical_kind, optional_kind, Random};
+use lvs_reference::{bare, gaps, insert_element};
+
+const MAX_MODEL: usize = 32_768;
+/// Models with more gaps get every so manieth of them.
+const MAX_GAPS: usize = 64;
+
+fn main() -> ExitCode {
+    let arguments: Vec<String> = env::args().skip(1).collect();
+    let [seed, count, lines] = &arguments[..] else {
+        return usage();
+    };
+    let (Ok(seed), Ok(count)) = (seed.parse(), count.parse()) else {
+        return usage();
+    };
+    match write_all(seed, count, lines) {
+        Ok(()) => ExitCode::SUCCESS,
+        Err(fault) => {
+            eprintln!("gap_cases: {fault}");
+            ExitCode::FAILURE
+        }
+    }
+}
+
+fn usage() -> ExitCode {
+    eprintln!("usage: gap_cases SEED COUNT LINES");
+    ExitCode::from(2)
+}
+
+fn write_all(seed: u64, count: u64, lines: &str) -> io::Result<()> {
+    let mut out = BufWriter::with_capacity(1 << 16, io::stdout().lock());
+    let mut lines = BufWriter::new(File::create(lines)?);
+    for index in 0..count {
+        let case = gen::case(seed, index);
+        let mut random = Random::for_case(!seed, index);
+        for (variant, line) in variants(&case, &mut random) {
+            variant.write(&mut out)?;
+            writeln!(lines, "{line}")?;
+        }
+    }
+    lines.flush()?;
+    out.flush()
+}
+
+/// The case and its variants, each with its line; none for a model that is
+/// refused with 1 to 3.
+fn variants(case: &Case, random: &mut Random) -> Vec<(Case, String)> {
+    let model = model_of(case);
+    let (Ok(bare_model), Ok(all_gaps)) = (bare(model), gaps(model)) else {
+        return Vec::new();
+    };
+    let same = line_of(case);
+    let mut made = vec![
+        (case.clone(), same.clone()),
+        (with_model(case, bare_model), same.clone()),
+        (with_model(case, other_version(model)), refused(case, 3)),
+    ];
+    let step = all_gaps.len().div_ceil(MAX_GAPS);
+    for gap in all_gaps.iter().step_by(step) {
+        for (kind, line) in [
+            (optional_kind(random), same.clone()),
+            (critical_kind(random), refused(case, 2)),
+        ] {
+            let length = random.below(5);
+            let mut element = Vec::new();
+            append_element(&mut element, kind, &random.bytes(length));
+            let longer = insert_element(model, gap, &element);
+            if longer.len() <= MAX_MODEL {
+                made.push((with_model(case, longer), line));
+            }
+        }
+    }
+    made
+}
+
+fn model_of(case: &Case) -> &[u8] {
+    match case {
+        Case::Verdict { model } | Case::Match { model, .. } | Case::Sign { model, .. } => model,
+    }
+}
+
+fn with_model(case: &Case, other: Vec<u8>) -> Case {
+    let mut changed = case.clone();
+    match &mut changed {
+        Case::Verdict { model } | Case::Match { model, .. } | Case::Sign { model, .. } => {
+            *model = other;
+        }
+    }
+    changed
+}
+
+fn line_of(case: &Case) -> String {
+    let mut line = Vec::new();
+    case.clone().answer(&mut line).expect("a Vec takes all");
+    String::from_utf8(line)
+        .expect("answers are text")
+        .trim_end()
+        .to_owned()
+}
+
+/// The line of a call that refuses with this number, and keeps its words.
+fn refused(case: &Case, number: u32) -> String {
+    let mut line = format!("refused {number} 0");
+    if let Case::Match { words, .. } = case {
+        line.extend(words.iter().map(|word| format!(" {word}")));
+    }
+    line
+}
+
+/// The last byte of the Version changed.
+fn other_version(model: &[u8]) -> Vec<u8> {
+    let mut rest = model;
+    loop {
+        let (element, behind) = Element::read(rest).expect("a model that is read has a Version");
+        rest = behind;
+        if element.kind == kind::VERSION {
+            break;
+        }
+    }
+    let mut changed = model.to_vec();
+    changed[model.len() - rest.len() - 1] ^= 1;
+    changed
+}

@@ -1,0 +1,355 @@
+//! Elements: a type, a length and that many bytes.
+//!
+//! Nothing here knows how a model is laid out; [`Contents`] only knows which
+//! elements are passed over inside a container.
+
+/// Type numbers of the elements of a compiled model.
+pub mod kind {
+    pub const VALUE: u32 = 0x21;
+    pub const TAG: u32 = 0x23;
+    pub const NODE_ID: u32 = 0x25;
+    pub const FN_ID: u32 = 0x27;
+    pub const IDENTIFIER: u32 = 0x29;
+    pub const USER_FN_CALL: u32 = 0x31;
+    pub const USER_FN_ARG: u32 = 0x33;
+    pub const CONSTRAINT_OPTION: u32 = 0x41;
+    pub const CONSTRAINT: u32 = 0x43;
+    pub const VALUE_EDGE: u32 = 0x51;
+    pub const PATTERN_EDGE: u32 = 0x53;
+    pub const SIGN_CONSTRAINT: u32 = 0x55;
+    pub const PARENT: u32 = 0x57;
+    pub const VERSION: u32 = 0x61;
+    pub const NODE: u32 = 0x63;
+    pub const TAG_SYMBOL: u32 = 0x67;
+    pub const NAMED_PATTERN_COUNT: u32 = 0x69;
+
+    /// Every type number above.
+    pub const ALL: [u32; 17] = [
+        VALUE,
+        TAG,
+        NODE_ID,
+        FN_ID,
+        IDENTIFIER,
+        USER_FN_CALL,
+        USER_FN_ARG,
+        CONSTRAINT_OPTION,
+        CONSTRAINT,
+        VALUE_EDGE,
+        PATTERN_EDGE,
+        SIGN_CONSTRAINT,
+        PARENT,
+        VERSION,
+        NODE,
+        TAG_SYMBOL,
+        NAMED_PATTERN_COUNT,
+    ];
+
+    /// The type of a name; no element of a model.
+    pub const NAME: u32 = 7;
+}
+
+/// The bytes keep no rule of the format.
+#[derive(Clone, Copy, Debug, PartialEq, Eq)]
+pub struct Malformed;
+
+/// One element: its type and the bytes of its value.
+#[derive(Clone, Copy, Debug, PartialEq, Eq)]
+pub struct Element<'a> {
+    pub kind: u32,
+    pub value: &'a [u8],
+}
+
+impl<'a> Element<'a> {
+    /// Reads the element at the start of `bytes`; also gives the bytes behind it.
+    pub fn read(bytes: &'a [u8]) -> Result<(Self, &'a [u8]), Malformed> {
+        let (kind, rest) = read_number(bytes)?;
+        let (length, rest) = read_number(rest)?;
+        let kind = u32::try_from(kind).map_err(|_| Malformed)?;
+        if kind == 0 {
+            return Err(Malformed);
+        }
+        let length = usize::try_from(length).map_err(|_| Malformed)?;
+        let (value, rest) = rest.split_at_checked(length).ok_or(Malformed)?;
+        Ok((Element { kind, value }, rest))
+    }
+}
+
+/// Reads a type or length number in its shortest form.
+fn read_number(bytes: &[u8]) -> Result<(u64, &[u8]), Malformed> {
+    let (&first, rest) = bytes.split_first().ok_or(Malformed)?;
+    let (width, least) = match first {
+        253 => (2, 253),
+        254 => (4, 1 << 16),
+        255 => (8, 1 << 32),
+        number => return Ok((number.into(), rest)),
+    };
+    let (digits, rest) = rest.split_at_checked(width).ok_or(Malformed)?;
+    let number = big_endian(digits);
+    if number < least {
+        return Err(Malformed);
+    }
+    Ok((number, rest))
+}
+
+/// The number whose digits to base 256 are `digits`, high byte first.
+fn big_endian(digits: &[u8]) -> u64 {
+    digits
+        .iter()
+        .fold(0, |number, &digit| number << 8 | u64::from(digit))
+}
+
+/// An integer value: 1, 2, 4 or 8 bytes, not necessarily the fewest.
+pub fn integer(value: &[u8]) -> Result<u64, Malformed> {
+    match value.len() {
+        1 | 2 | 4 | 8 => Ok(big_endian(value)),
+        _ => Err(Malformed),
+    }
+}
+
+/// Whether a model gives this type a meaning.
+pub fn is_known(kind: u32) -> bool {
+    kind::ALL.contains(&kind)
+}
+
+/// Whether a reader of models passes over an element of this type.
+pub fn is_optional(kind: u32) -> bool {
+    kind >= 32 && kind.is_multiple_of(2) && !is_known(kind)
+}
+
+/// Whether an element of this type makes a model malformed wherever it stands.
+pub fn is_critical(kind: u32) -> bool {
+    !is_known(kind) && !is_optional(kind)
+}
+
+/// Whether an element of this type holds other elements of a model.
+pub fn is_container(kind: u32) -> bool {
+    matches!(
+        kind,
+        kind::NODE
+            | kind::VALUE_EDGE
+            | kind::PATTERN_EDGE
+            | kind::CONSTRAINT
+            | kind::CONSTRAINT_OPTION
+            | kind::USER_FN_CALL
+            | kind::USER_FN_ARG
+            | kind::TAG_SYMBOL
+    )
+}
+
+/// The elements of a slice, one after the other; ends after the first fault.
+#[derive(Clone, Debug)]
+pub struct Elements<'a> {
+    rest: &'a [u8],
+}
+
+impl<'a> Elements<'a> {
+    pub fn new(bytes: &'a [u8]) -> Self {
+        Elements { rest: bytes }
+    }
+}
+
+impl<'a> Iterator for Elements<'a> {
+    type Item = Result<Element<'a>, Malformed>;
+
+    fn next(&mut self) -> Option<Self::Item> {
+        if self.rest.is_empty() {
+            return None;
+        }
+        match Element::read(self.rest) {
+            Ok((element, rest)) => {
+                self.rest = rest;
+                Some(Ok(element))
+            }
+            Err(fault) => {
+                self.rest = &[];
+                Some(Err(fault))
+            }
+        }
+    }
+}
+
+/// What a model or one of its containers holds, with optional elements passed
+/// over. Nothing is read before it is asked for.
+#[derive(Clone, Debug)]
+pub struct Contents<'a> {
+    rest: &'a [u8],
+}
+
+impl<'a> Contents<'a> {
+    pub fn new(bytes: &'a [u8]) -> Self {
+        Contents { rest: bytes }
+    }
+
+    /// Takes the next element if it is of the given type.
+    pub fn take(&mut self, kind: u32) -> Result<Option<&'a [u8]>, Malformed> {
+        match self.peek()? {
+            Some((element, rest)) if element.kind == kind => {
+                self.rest = rest;
+                Ok(Some(element.value))
+            }
+            _ => Ok(None),
+        }
+    }
+
+    /// Takes the next element, which must be of the given type.
+    pub fn expect(&mut self, kind: u32) -> Result<&'a [u8], Malformed> {
+        self.take(kind)?.ok_or(Malformed)
+    }
+
+    /// Takes all elements of the given type that come next.
+    pub fn take_all<T>(
+        &mut self,
+        kind: u32,
+        parse: impl Fn(&'a [u8]) -> Result<T, Malformed>,
+    ) -> Result<Vec<T>, Malformed> {
+        let mut all = Vec::new();
+        while let Some(value) = self.take(kind)? {
+            all.push(parse(value)?);
+        }
+        Ok(all)
+    }
+
+    /// Takes the next element, of whatever type.
+    pub fn take_any(&mut self) -> Result<Option<Element<'a>>, Malformed> {
+        Ok(self.peek()?.map(|(element, rest)| {
+            self.rest = rest;
+            element
+        }))
+    }
+
+    /// Nothing but optional elements may be left.
+    pub fn finish(mut self) -> Result<(), Malformed> {
+        match self.peek()? {
+            Some(_) => Err(Malformed),
+            None => Ok(()),
+        }
+    }
+
+    /// The next element that isn't optional and the bytes behind it.
+    fn peek(&mut self) -> Result<Option<(Element<'a>, &'a [u8])>, Malformed> {
+        while !self.rest.is_empty() {
+            let (element, rest) = Element::read(self.rest)?;
+            if !is_optional(element.kind) {
+                return Ok(Some((element, rest)));
+            }
+            self.rest = rest;
+        }
+        Ok(None)
+    }
+}
+
+/// Appends a type or length number in its shortest form.
+pub fn append_number(out: &mut Vec<u8>, number: u64) {
+    match number {
+        0..=252 => out.push(number as u8),
+        253..=0xFFFF => {
+            out.push(253);
+            out.extend((number as u16).to_be_bytes());
+        }
+        0x1_0000..=0xFFFF_FFFF => {
+            out.push(254);
+            out.extend((number as u32).to_be_bytes());
+        }
+        _ => {
+            out.push(255);
+            out.extend(number.to_be_bytes());
+        }
+    }
+}
+
+/// Appends an element, its header in the shortest form.
+pub fn append_element(out: &mut Vec<u8>, kind: u32, value: &[u8]) {
+    append_number(out, kind.into());
+    append_number(out, value.len() as u64);
+    out.extend_from_slice(value);
+}
+
+#[cfg(test)]
+mod tests {
+    use super::*;
+
+    #[test]
+    fn numbers_take_the_shortest_form_only() {
+        let good: [(&[u8], u64); 6] = [
+            (&[0], 0),
+            (&[252], 252),
+            (&[253, 0, 253], 253),
+            (&[253, 255, 255], 65_535),
+            (&[254, 0, 1, 0, 0], 65_536),
+            (&[255, 0, 0, 0, 1, 0, 0, 0, 0], 1 << 32),
+        ];
+        for (bytes, number) in good {
+            assert_eq!(read_number(bytes), Ok((number, &[][..])));
+            let mut written = Vec::new();
+            append_number(&mut written, number);
+            assert_eq!(written, bytes);
+        }
+        let bad: [&[u8]; 8] = [
+            &[],
+            &[253, 0],
+            &[253, 0, 252],
+            &[254, 0, 1, 0],
+            &[254, 0, 0, 255, 255],
+            &[255, 0, 0, 0, 1, 0, 0, 0],
+            &[255, 0, 0, 0, 0, 255, 255, 255, 255],
+            &[255],
+        ];
+        for bytes in bad {
+            assert_eq!(read_number(bytes), Err(Malformed));
+        }
+    }
+
+    #[test]
+    fn types_run_from_1_to_32_bits() {
+        assert_eq!(Element::read(&[0, 0]), Err(Malformed));
+        let largest = [254, 255, 255, 255, 255, 0];
+        assert_eq!(Element::read(&largest).map(|(e, _)| e.kind), Ok(u32::MAX));
+        for low in [0, 8] {
+            let above = [255, 0, 0, 0, 1, 0, 0, 0, low, 0];
+            assert_eq!(Element::read(&above), Err(Malformed));
+        }
+    }
+
+    #[test]
+    fn a_length_past_the_end_is_malformed() {
+        assert_eq!(Element::read(&[8, 1]), Err(Malformed));
+        let huge = [8, 255, 255, 255, 255, 255, 255, 255, 255, 255];
+        assert_eq!(Element::read(&huge), Err(Malformed));
+        let low_bits_fit = [8, 255, 0, 0, 0, 1, 0, 0, 0, 1, 97];
+        assert_eq!(Element::read(&low_bits_fit), Err(Malformed));
+    }
+
+    #[test]
+    fn integers_have_four_widths() {
+        assert_eq!(integer(&[7]), Ok(7));
+        assert_eq!(integer(&[0, 7]), Ok(7));
+        assert_eq!(integer(&[0, 0, 1, 0]), Ok(256));
+        assert_eq!(integer(&[255; 8]), Ok(u64::MAX));
+        for length in [0, 3, 5, 6, 7, 9] {
+            assert_eq!(integer(&vec![0; length]), Err(Malformed));
+        }
+    }
+
+    #[test]
+    fn types_are_known_optional_or_critical() {
+        let optional = [32, 34, 0x30, 0x40, 0x80, 252, 254, 65_536, u32::MAX - 1];
+        let critical = [1, 2, 7, 8, 30, 31, 0x2B, 0x35, 0x65, 0x6B, 0x81, u32::MAX];
+        assert!(optional
+            .iter()
+            .all(|&kind| is_optional(kind) && !is_critical(kind)));
+        assert!(critical
+            .iter()
+            .all(|&kind| is_critical(kind) && !is_optional(kind)));
+        assert!(kind::ALL
+            .iter()
+            .all(|&kind| !is_optional(kind) && !is_critical(kind)));
+    }
+
+    #[test]
+    fn contents_are_read_only_when_asked_for() {
+        let mut contents = Contents::new(&[0x80, 1, 9, 0x23, 1, 5, 0x25]);
+        assert_eq!(contents.take(kind::NODE_ID), Ok(None));
+        assert_eq!(contents.expect(kind::TAG), Ok(&[5][..]));
+        assert_eq!(contents.take_any(), Err(Malformed));
+    }
+}

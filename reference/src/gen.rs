@@ -1,0 +1,86 @@
+//! A deterministic generator of cases.
+//!
+//! A case depends on the seed and its own index only.
+
+mod damage;
+mod faults;
+mod models;
+mod names;
+mod plan;
+mod random;
+mod sound;
+mod tree;
+mod work;
+
+pub use damage::{critical_kind, optional_kind};
+pub use models::{sample, sound_model, Sample};
+pub use random::Random;
+
+use crate::cases::Case;
+use crate::model::Model;
+use crate::verdict::load;
+
+/// The largest number of edges that a walk of a generated case may look at.
+const MAX_WORK: u64 = 4_000;
+
+#[derive(Clone, Copy)]
+enum Call {
+    Verdict,
+    Match,
+    Sign,
+}
+
+/// The case with this index.
+pub fn case(seed: u64, index: u64) -> Case {
+    let mut random = Random::for_case(seed, index);
+    let random = &mut random;
+    let Sample { sound, bytes } = sample(random);
+    let source = load(&sound).expect("sound models are accepted");
+    match random.weighted(&[(20, Call::Verdict), (40, Call::Match), (40, Call::Sign)]) {
+        Call::Verdict => Case::Verdict { model: bytes },
+        Call::Match => match_case(random, &source, bytes),
+        Call::Sign => sign_case(random, &source, bytes),
+    }
+}
+
+fn match_case(random: &mut Random, source: &Model, model: Vec<u8>) -> Case {
+    let mut name = names::match_name(random, source);
+    while work::of_match(source, &model, &name) > MAX_WORK {
+        name = work::shortened(&name);
+    }
+    Case::Match {
+        model,
+        name,
+        words: words(random),
+    }
+}
+
+fn sign_case(random: &mut Random, source: &Model, model: Vec<u8>) -> Case {
+    let (mut packet, mut key) = names::sign_names(random, source);
+    while work::of_signing(source, &model, &packet, &key) > MAX_WORK {
+        if packet.len() > key.len() {
+            packet = work::shortened(&packet);
+        } else {
+            key = work::shortened(&key);
+        }
+    }
+    Case::Sign { model, packet, key }
+}
+
+/// A binding buffer.
+fn words(random: &mut Random) -> Vec<u32> {
+    let length = match random.below(20) {
+        0 => *random.pick(&[255, 254, 255, 253]),
+        1 => random.below(256),
+        2..=4 => random.between(257, 300),
+        5 => *random.pick(&[511, 512, 513, 1_023, 1_024]),
+        _ => 256,
+    };
+    let first = random.below(1_000);
+    if random.chance(10) {
+        return (0..length).map(|_| random.number() as u32).collect();
+    }
+    (0..length)
+        .map(|place| ((first + place) % 1_000) as u32)
+        .collect()
+}

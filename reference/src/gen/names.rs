@@ -1,0 +1,476 @@
+//! Names that walk a model, names that nearly do, and faulty names.
+
+use super::damage::alter_bytes;
+use super::plan::OwnedComponent;
+use super::random::Random;
+use super::sound;
+use crate::cases::MAX_NAME_FIELD;
+use crate::elements::{append_element, append_number, kind};
+use crate::model::{Argument, Model, PatternEdge, Term};
+use crate::names::{Component, PlacedComponent, MAX_COMPONENTS, MAX_NAME_BYTES};
+use crate::walk::{may_cross, Bindings};
+
+/// More candidates than this aren't tried for one edge.
+const MAX_CANDIDATES: usize = 40;
+
+/// What becomes of the components of a walk.
+#[derive(Clone, Copy, Debug)]
+enum Style {
+    Exact,
+    Near,
+    Random,
+    Malformed,
+    TooLong,
+    AtByteLimit,
+    TooManyComponents,
+    AtComponentLimit,
+}
+
+/// A packet name for a match call.
+pub fn match_name(random: &mut Random, model: &Model) -> Vec<u8> {
+    let walker = Walker::new(model);
+    let components = walker.any_walk(random, &mut Bindings::default());
+    let style = random.weighted(&[
+        (570, Style::Exact),
+        (190, Style::Near),
+        (50, Style::Random),
+        (80, Style::Malformed),
+        (30, Style::TooLong),
+        (20, Style::AtByteLimit),
+        (35, Style::TooManyComponents),
+        (25, Style::AtComponentLimit),
+    ]);
+    finish(random, model, &components, style)
+}
+
+/// A packet name and a key name for a signing call.
+pub fn sign_names(random: &mut Random, model: &Model) -> (Vec<u8>, Vec<u8>) {
+    let (packet, key) = signing_walks(random, model);
+    let styles = [
+        (780, Style::Exact),
+        (80, Style::Near),
+        (15, Style::Random),
+        (45, Style::Malformed),
+        (30, Style::TooLong),
+        (10, Style::AtByteLimit),
+        (30, Style::TooManyComponents),
+        (10, Style::AtComponentLimit),
+    ];
+    let packet_style = random.weighted(&styles);
+    let key_style = random.weighted(&styles);
+    (
+        finish(random, model, &packet, packet_style),
+        finish(random, model, &key, key_style),
+    )
+}
+
+/// The components of a packet that has signers and of a key among them.
+fn signing_walks<'m>(
+    random: &mut Random,
+    model: &'m Model,
+) -> (Vec<Component<'m>>, Vec<Component<'m>>) {
+    let walker = Walker::new(model);
+    let mut bindings = Bindings::default();
+    let Some(packet_path) = walker.path_to_signed_node(random) else {
+        let packet = walker.any_walk(random, &mut bindings);
+        return (packet, walker.any_walk(random, &mut bindings));
+    };
+    let packet = walker.walk_along(random, &packet_path, &mut bindings);
+    if random.chance(12) {
+        bindings = Bindings::default();
+    }
+    let packet_node = packet_path[packet_path.len() - 1];
+    let signers = &model.nodes[packet_node].signers;
+    let signer = *random.pick(signers) as usize;
+    let key = match walker.path_to(random, signer) {
+        Some(path) if random.chance(92) => walker.walk_along(random, &path, &mut bindings),
+        _ => walker.any_walk(random, &mut bindings),
+    };
+    (packet, key)
+}
+
+/// Finds names by walking a model.
+struct Walker<'m> {
+    model: &'m Model<'m>,
+    candidates: Vec<Component<'m>>,
+}
+
+impl<'m> Walker<'m> {
+    fn new(model: &'m Model<'m>) -> Self {
+        Walker {
+            model,
+            candidates: candidates(model),
+        }
+    }
+
+    /// Crosses edges at random and stops somewhere.
+    fn any_walk(&self, random: &mut Random, bindings: &mut Bindings<'m>) -> Vec<Component<'m>> {
+        let stop_percent = *random.pick(&[0, 5, 20, 40]);
+        let mut node = self.model.start as usize;
+        let mut components = Vec::new();
+        while components.len() < MAX_COMPONENTS && !random.chance(stop_percent) {
+            let destinations: Vec<u64> = self.model.nodes[node].destinations().collect();
+            if destinations.is_empty() {
+                break;
+            }
+            let next = *random.pick(&destinations) as usize;
+            components.push(self.component_between(random, node, next, bindings));
+            node = next;
+        }
+        components
+    }
+
+    /// Crosses an edge between each two nodes of the path.
+    fn walk_along(
+        &self,
+        random: &mut Random,
+        path: &[usize],
+        bindings: &mut Bindings<'m>,
+    ) -> Vec<Component<'m>> {
+        path.windows(2)
+            .map(|pair| self.component_between(random, pair[0], pair[1], bindings))
+            .collect()
+    }
+
+    /// A component that crosses one of the edges between two nodes, if any does.
+    fn component_between(
+        &self,
+        random: &mut Random,
+        from: usize,
+        to: usize,
+        bindings: &mut Bindings<'m>,
+    ) -> Component<'m> {
+        let node = &self.model.nodes[from];
+        let by_value = node
+            .value_edges
+            .iter()
+            .filter(|edge| edge.destination == to as u64);
+        let values: Vec<Component> = by_value.map(|edge| edge.value).collect();
+        let by_pattern = node
+            .pattern_edges
+            .iter()
+            .filter(|edge| edge.destination == to as u64);
+        let patterns: Vec<&PatternEdge> = by_pattern.collect();
+        let choice = random.below(values.len() + patterns.len());
+        if let Some(&value) = values.get(choice) {
+            return value;
+        }
+        let edge = patterns[choice - values.len()];
+        let component = self.component_for(random, edge, bindings);
+        bindings.bind_if_unbound(
+            edge.tag,
+            PlacedComponent {
+                component,
+                start: 0,
+                length: 0,
+            },
+        );
+        component
+    }
+
+    fn component_for(
+        &self,
+        random: &mut Random,
+        edge: &PatternEdge,
+        bindings: &Bindings<'m>,
+    ) -> Component<'m> {
+        if let Some(bound) = bindings.get(edge.tag) {
+            return bound;
+        }
+        let bound = bindings.slots().iter().flatten().map(|slot| slot.component);
+        let fitting: Vec<Component> = bound
+            .chain(self.candidates.iter().copied())
+            .filter(|&component| may_cross(edge, component, bindings))
+            .collect();
+        if fitting.is_empty() {
+            return *random.pick(&self.candidates);
+        }
+        *random.pick(&fitting)
+    }
+
+    fn path_to_signed_node(&self, random: &mut Random) -> Option<Vec<usize>> {
+        let nodes = self.model.nodes.iter().enumerate();
+        let signed = nodes.filter(|(_, node)| !node.signers.is_empty());
+        let mut signed: Vec<usize> = signed.map(|(index, _)| index).collect();
+        random.shuffle(&mut signed);
+        signed
+            .into_iter()
+            .take(6)
+            .find_map(|index| self.path_to(random, index))
+    }
+
+    /// The nodes from the start to this one, at times around a cycle before.
+    fn path_to(&self, random: &mut Random, target: usize) -> Option<Vec<usize>> {
+        let start = self.model.start as usize;
+        let mut turns = if random.chance(30) {
+            random.below(4)
+        } else {
+            0
+        };
+        let mut path = vec![target];
+        let mut node = target;
+        while node != start || turns > 0 {
+            if node == start {
+                turns -= 1;
+            }
+            let Some(parent) = self.crossed_parent(node) else {
+                break;
+            };
+            path.push(parent);
+            node = parent;
+            if path.len() > MAX_COMPONENTS {
+                break;
+            }
+        }
+        let first_start = path.iter().rposition(|&node| node == start)?;
+        path.truncate(first_start + 1);
+        path.reverse();
+        Some(path)
+    }
+
+    /// The node's parent, if an edge leads from it to the node.
+    fn crossed_parent(&self, node: usize) -> Option<usize> {
+        let parent = usize::try_from(self.model.nodes[node].parent?).ok()?;
+        let mut destinations = self.model.nodes.get(parent)?.destinations();
+        destinations
+            .any(|destination| destination == node as u64)
+            .then_some(parent)
+    }
+}
+
+/// Components that are likely to cross an edge of this model.
+fn candidates<'m>(model: &Model<'m>) -> Vec<Component<'m>> {
+    const ALWAYS: [&[u8]; 6] = [b"a", b"b", b"2022", b"1999", b"100001", b"200002"];
+    let in_options = model.nodes.iter().flat_map(|node| node.options());
+    let in_terms = in_options
+        .flat_map(|option| &option.terms)
+        .filter_map(|term| match term {
+            Term::Value(value) => Some(*value),
+            Term::Tag(_) => None,
+            Term::Call(call) => match call.arguments.first()? {
+                Argument::Value(value) => Some(*value),
+                Argument::Tag(_) => None,
+            },
+        });
+    let on_edges = model
+        .nodes
+        .iter()
+        .flat_map(|node| &node.value_edges)
+        .map(|edge| edge.value);
+    let always = ALWAYS.iter().map(|value| Component { kind: 8, value });
+    always
+        .chain(in_terms)
+        .chain(on_edges)
+        .take(MAX_CANDIDATES)
+        .collect()
+}
+
+/// Turns components into the bytes of a name, in some style.
+fn finish(random: &mut Random, model: &Model, walk: &[Component], style: Style) -> Vec<u8> {
+    let mut name = styled(random, model, walk, style);
+    name.truncate(MAX_NAME_FIELD);
+    name
+}
+
+fn styled(random: &mut Random, model: &Model, walk: &[Component], style: Style) -> Vec<u8> {
+    let mut components: Vec<OwnedComponent> =
+        walk.iter().map(|&component| component.into()).collect();
+    match style {
+        Style::Exact => {}
+        Style::Near => alter_components(random, model, &mut components),
+        Style::Random => {
+            let count = random.below(7);
+            components = (0..count).map(|_| any_component(random, model)).collect();
+        }
+        Style::Malformed => {
+            if random.chance(10) {
+                fill_up(random, model, &mut components, MAX_COMPONENTS + 1);
+            }
+            return malformed(random, components);
+        }
+        Style::TooLong => return too_long(random, components),
+        Style::AtByteLimit => {
+            if components.is_empty() || random.chance(20) {
+                components.push(any_component(random, model));
+            }
+            return with_length(components, MAX_NAME_BYTES);
+        }
+        Style::TooManyComponents => {
+            let count = *random.pick(&[33, 33, 33, 34, 40, 100]);
+            fill_up(random, model, &mut components, count);
+        }
+        Style::AtComponentLimit => fill_up(random, model, &mut components, MAX_COMPONENTS),
+    }
+    encode(&components)
+}
+
+fn any_component(random: &mut Random, model: &Model) -> OwnedComponent {
+    if random.chance(30) {
+        return sound::component(random);
+    }
+    (*random.pick(&candidates(model))).into()
+}
+
+fn fill_up(random: &mut Random, model: &Model, components: &mut Vec<OwnedComponent>, count: usize) {
+    components.retain(|component| component.value.len() < 20);
+    let repeated = components.clone();
+    while components.len() < count {
+        let next = match repeated.get(components.len() % repeated.len().max(1)) {
+            Some(component) if random.chance(95) => component.clone(),
+            _ => OwnedComponent::generic(*random.pick(&["a", "b", ""])),
+        };
+        components.push(next);
+    }
+    if random.chance(5) {
+        alter_components(random, model, components);
+    }
+}
+
+/// Changes the components a little.
+fn alter_components(random: &mut Random, model: &Model, components: &mut Vec<OwnedComponent>) {
+    let place = random.below(components.len() + 1);
+    let other = random.below(components.len() + 1);
+    let choice = random.below(8);
+    if choice < 2 || place == components.len() {
+        components.insert(place, any_component(random, model));
+        return;
+    }
+    match choice {
+        2 => {
+            components.remove(place);
+        }
+        3 => components[place] = any_component(random, model),
+        4 => components[place].kind = *random.pick(&[1, 7, 8, 9, 0x21, 253, 264, 65_535]),
+        5 => alter_bytes(random, &mut components[place].value),
+        6 if other < components.len() => components.swap(place, other),
+        _ => components.truncate(place),
+    }
+}
+
+fn encode(components: &[OwnedComponent]) -> Vec<u8> {
+    let mut inside = Vec::new();
+    for component in components {
+        append_element(&mut inside, component.kind.into(), &component.value);
+    }
+    let mut name = Vec::new();
+    append_element(&mut name, kind::NAME, &inside);
+    name
+}
+
+/// A name of this many bytes, made so by the length of its last component.
+fn with_length(mut components: Vec<OwnedComponent>, length: usize) -> Vec<u8> {
+    while encode(&components).len() > length {
+        components.pop();
+    }
+    if components.is_empty() {
+        components.push(OwnedComponent::generic("a"));
+    }
+    loop {
+        let name = encode(&components);
+        let missing = length.saturating_sub(name.len());
+        let Some(last) = components.last_mut().filter(|_| missing > 0) else {
+            return name;
+        };
+        let step = if missing > 8 { missing - 8 } else { 1 };
+        last.value.extend(vec![b'y'; step]);
+    }
+}
+
+fn too_long(random: &mut Random, components: Vec<OwnedComponent>) -> Vec<u8> {
+    let length = *random.pick(&[1_025, 1_025, 1_025, 1_026, 1_100, 2_048, MAX_NAME_FIELD]);
+    if random.chance(20) {
+        return random.bytes(length);
+    }
+    let mut name = with_length(components, length);
+    name.resize(length.max(name.len()), 0);
+    name
+}
+
+fn malformed(random: &mut Random, components: Vec<OwnedComponent>) -> Vec<u8> {
+    let mut name = encode(&components);
+    match random.below(12) {
+        0 => {
+            name.pop();
+        }
+        1 => name.push(*random.pick(&[0, 7, 8])),
+        2 => name[0] = *random.pick(&[0, 6, 8, 0x21, 0x80, 253]),
+        3 => name.clear(),
+        4 => name = around_component(&[0, 0]),
+        5 => name = around_component(&[254, 0, 1, 0, 0, 0]),
+        6 => name = around_component(&not_shortest_component(random)),
+        7 => name = wide_header(random, &components),
+        8 => name = with_cut_component(&components),
+        9 => {
+            let length = random.between(1, 12);
+            name = random.bytes(length);
+        }
+        _ => alter_bytes(random, &mut name),
+    }
+    name
+}
+
+/// A name that holds just these bytes.
+fn around_component(component: &[u8]) -> Vec<u8> {
+    let mut name = Vec::new();
+    append_element(&mut name, kind::NAME, component);
+    name
+}
+
+/// A component whose type or length could be written in fewer bytes.
+fn not_shortest_component(random: &mut Random) -> Vec<u8> {
+    let headers: [&[u8]; 6] = [
+        &[253, 0, 8, 0],
+        &[253, 0, 252, 0],
+        &[254, 0, 0, 255, 255, 0],
+        &[255, 0, 0, 0, 1, 0, 0, 0, 8, 0],
+        &[8, 253, 0, 0],
+        &[8, 253, 0, 252],
+    ];
+    let header = *random.pick(&headers);
+    let length = usize::from(header[header.len() - 1]);
+    [header, &vec![b'x'; length]].concat()
+}
+
+/// A name whose type or length isn't in the shortest form, or is far too large.
+fn wide_header(random: &mut Random, components: &[OwnedComponent]) -> Vec<u8> {
+    let name = encode(components);
+    let (header, inside) = name.split_at(if name[1] < 253 { 2 } else { 4 });
+    let length = inside.len() as u64;
+    let mut out = Vec::new();
+    match random.below(4) {
+        0 => {
+            out.extend([253, 0, 7]);
+            append_number(&mut out, length);
+        }
+        1 => {
+            out.extend([7, 254]);
+            out.extend((length as u32).to_be_bytes());
+        }
+        2 => {
+            out.extend([7, 255]);
+            out.extend(length.to_be_bytes());
+        }
+        _ => {
+            out.push(header[0]);
+            append_number(
+                &mut out,
+                *random.pick(&[u64::MAX, 1 << 32, length + 1, 1 << 31]),
+            );
+        }
+    }
+    out.extend_from_slice(inside);
+    out
+}
+
+/// A name whose last component claims one byte more than the name holds.
+fn with_cut_component(components: &[OwnedComponent]) -> Vec<u8> {
+    let whole = encode(components);
+    let inside = if whole[1] < 253 {
+        &whole[2..]
+    } else {
+        &whole[4..]
+    };
+    let mut inside = inside.to_vec();
+    inside.extend([8, 2, b'a']);
+    around_component(&inside)
+}

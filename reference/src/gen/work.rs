@@ -1,0 +1,136 @@
+//! How much a walk may have to look at, so that no case takes long.
+//!
+//! Counts every path that equal ValueEdges and any PatternEdges allow; a walk
+//! looks at no more. Faulty names and models are counted as if they were sound,
+//! so that a checker that refuses too little comes to an end as well.
+
+use crate::elements::{append_element, kind};
+use crate::model::Model;
+use crate::names::Component;
+use crate::verdict::load;
+
+/// Components behind these are not counted.
+const MAX_COUNTED: usize = 40;
+
+/// The edges that a match call looks at, at most, in the model or in the sound
+/// one that it was made from.
+pub fn of_match(source: &Model, model: &[u8], name: &[u8]) -> u64 {
+    let components = readable_components(name);
+    in_both(source, model, |model| edges_tried(model, &components))
+}
+
+/// The edges that a signing call looks at, at most, in the model or in the
+/// sound one that it was made from.
+pub fn of_signing(source: &Model, model: &[u8], packet: &[u8], key: &[u8]) -> u64 {
+    let packet = readable_components(packet);
+    let key = readable_components(key);
+    in_both(source, model, |model| {
+        let matches = arrivals(model, &packet).pop().unwrap_or_default();
+        let matches = matches.into_iter().fold(0, u64::saturating_add);
+        let of_key = matches.saturating_mul(edges_tried(model, &key));
+        edges_tried(model, &packet).saturating_add(of_key)
+    })
+}
+
+fn in_both(source: &Model, model: &[u8], count: impl Fn(&Model) -> u64) -> u64 {
+    let in_model = load(model).map_or(0, |model| count(&model));
+    in_model.max(count(source))
+}
+
+/// A sound name with the first half of the components.
+pub fn shortened(name: &[u8]) -> Vec<u8> {
+    let components = readable_components(name);
+    let mut inside = Vec::new();
+    for component in &components[..components.len() / 2] {
+        append_element(&mut inside, component.kind.into(), component.value);
+    }
+    let mut out = Vec::new();
+    append_element(&mut out, kind::NAME, &inside);
+    out
+}
+
+/// What may be taken for the components of a name, however faulty.
+fn readable_components(name: &[u8]) -> Vec<Component<'_>> {
+    let mut components = Vec::new();
+    let mut rest = read_leniently(name).map_or(&[][..], |(name, _)| name.value);
+    while let Some((component, behind)) = read_leniently(rest) {
+        components.push(component);
+        rest = behind;
+    }
+    components.truncate(MAX_COUNTED);
+    components
+}
+
+/// Reads an element in any form; a length past the end reaches to the end.
+fn read_leniently(bytes: &[u8]) -> Option<(Component<'_>, &[u8])> {
+    let (kind, rest) = read_number_leniently(bytes)?;
+    let (length, rest) = read_number_leniently(rest)?;
+    let length = usize::try_from(length).map_or(rest.len(), |length| length.min(rest.len()));
+    let (value, rest) = rest.split_at(length);
+    let kind = (kind as u16).max(1);
+    Some((Component { kind, value }, rest))
+}
+
+fn read_number_leniently(bytes: &[u8]) -> Option<(u64, &[u8])> {
+    let (&first, rest) = bytes.split_first()?;
+    let width = match first {
+        253 => 2,
+        254 => 4,
+        255 => 8,
+        number => return Some((number.into(), rest)),
+    };
+    let (digits, rest) = rest.split_at_checked(width)?;
+    let number = digits
+        .iter()
+        .fold(0, |number, &digit| number << 8 | u64::from(digit));
+    Some((number, rest))
+}
+
+fn edges_tried(model: &Model, components: &[Component]) -> u64 {
+    let counts = arrivals(model, components);
+    let tried = |reached: &Vec<u64>| {
+        let edges = model
+            .nodes
+            .iter()
+            .map(|node| node.destinations().count() as u64);
+        let work = reached
+            .iter()
+            .zip(edges)
+            .map(|(&times, edges)| times.saturating_mul(edges));
+        work.fold(0, u64::saturating_add)
+    };
+    counts[..components.len()]
+        .iter()
+        .map(tried)
+        .fold(0, u64::saturating_add)
+}
+
+/// How often each node may be reached, before each component and at the end.
+fn arrivals(model: &Model, components: &[Component]) -> Vec<Vec<u64>> {
+    let mut reached = vec![0; model.nodes.len()];
+    reached[model.start as usize] = 1;
+    let mut all = vec![reached];
+    for &component in components {
+        let next = next_arrivals(model, component, &all[all.len() - 1]);
+        all.push(next);
+    }
+    all
+}
+
+/// How often each node may be reached by one more component.
+fn next_arrivals(model: &Model, component: Component, reached: &[u64]) -> Vec<u64> {
+    let mut next = vec![0u64; model.nodes.len()];
+    let nodes = model.nodes.iter().zip(reached);
+    for (node, &times) in nodes.filter(|(_, &times)| times > 0) {
+        let values = node.value_edges.iter();
+        let by_value = values
+            .filter(|edge| edge.value == component)
+            .map(|edge| edge.destination);
+        let by_pattern = node.pattern_edges.iter().map(|edge| edge.destination);
+        for destination in by_value.chain(by_pattern) {
+            let count = &mut next[destination as usize];
+            *count = count.saturating_add(times);
+        }
+    }
+    next
+}

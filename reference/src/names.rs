@@ -1,0 +1,186 @@
+//! Names and their components.
+
+use crate::elements::{kind, Element, Elements, Malformed};
+use crate::verdict::{Reason, Refusal};
+
+/// The longest name, in bytes of the whole element.
+pub const MAX_NAME_BYTES: usize = 1_024;
+/// The largest number of components in a name.
+pub const MAX_COMPONENTS: usize = 32;
+
+/// A name component. Two are equal when type and bytes are.
+#[derive(Clone, Copy, Debug, PartialEq, Eq)]
+pub struct Component<'a> {
+    pub kind: u16,
+    pub value: &'a [u8],
+}
+
+impl<'a> TryFrom<Element<'a>> for Component<'a> {
+    type Error = Malformed;
+
+    fn try_from(element: Element<'a>) -> Result<Self, Malformed> {
+        let kind = u16::try_from(element.kind).map_err(|_| Malformed)?;
+        Ok(Component {
+            kind,
+            value: element.value,
+        })
+    }
+}
+
+/// A component of a name, with the place of its whole element in the name.
+#[derive(Clone, Copy, Debug, PartialEq, Eq)]
+pub struct PlacedComponent<'a> {
+    pub component: Component<'a>,
+    pub start: u32,
+    pub length: u32,
+}
+
+/// The components of a name, in their order.
+#[derive(Clone, Debug, PartialEq, Eq)]
+pub struct Name<'a> {
+    pub components: Vec<PlacedComponent<'a>>,
+}
+
+/// Which of the two names of a call is meant; it decides the refusal numbers.
+#[derive(Clone, Copy, Debug, PartialEq, Eq)]
+pub enum Role {
+    Packet,
+    Key,
+}
+
+impl Role {
+    fn too_long(self) -> Reason {
+        match self {
+            Role::Packet => Reason::PacketTooLong,
+            Role::Key => Reason::KeyTooLong,
+        }
+    }
+
+    fn malformed(self) -> Reason {
+        match self {
+            Role::Packet => Reason::PacketMalformed,
+            Role::Key => Reason::KeyMalformed,
+        }
+    }
+
+    fn too_many_components(self) -> Reason {
+        match self {
+            Role::Packet => Reason::PacketComponents,
+            Role::Key => Reason::KeyComponents,
+        }
+    }
+}
+
+impl<'a> Name<'a> {
+    /// Reads a name and tests it against its limits.
+    pub fn load(bytes: &'a [u8], role: Role) -> Result<Self, Refusal> {
+        if bytes.len() > MAX_NAME_BYTES {
+            return Err(role.too_long().into());
+        }
+        let name = Name::parse(bytes).map_err(|Malformed| role.malformed())?;
+        if name.components.len() > MAX_COMPONENTS {
+            return Err(role.too_many_components().into());
+        }
+        Ok(name)
+    }
+
+    /// Reads a name of any size.
+    fn parse(bytes: &'a [u8]) -> Result<Self, Malformed> {
+        let (name, rest) = Element::read(bytes)?;
+        if name.kind != kind::NAME || !rest.is_empty() {
+            return Err(Malformed);
+        }
+        let mut components = Vec::new();
+        let mut inside = name.value;
+        while !inside.is_empty() {
+            let (element, behind) = Element::read(inside)?;
+            components.push(PlacedComponent {
+                component: element.try_into()?,
+                start: (bytes.len() - inside.len()) as u32,
+                length: (inside.len() - behind.len()) as u32,
+            });
+            inside = behind;
+        }
+        Ok(Name { components })
+    }
+}
+
+/// The single component that a Value holds.
+pub fn single_component(bytes: &[u8]) -> Result<Component<'_>, Malformed> {
+    let mut elements = Elements::new(bytes);
+    let component = elements.next().ok_or(Malformed)??.try_into()?;
+    match elements.next() {
+        Some(_) => Err(Malformed),
+        None => Ok(component),
+    }
+}
+
+#[cfg(test)]
+mod tests {
+    use super::*;
+
+    fn refusal(bytes: &[u8]) -> Option<u8> {
+        Name::load(bytes, Role::Packet)
+            .err()
+            .map(|refusal| refusal.number())
+    }
+
+    #[test]
+    fn components_know_their_places() {
+        let bytes = [7, 8, 8, 1, 97, 253, 1, 0, 1, 98];
+        let name = Name::load(&bytes, Role::Packet).unwrap();
+        let places: Vec<_> = name
+            .components
+            .iter()
+            .map(|c| (c.start, c.length))
+            .collect();
+        assert_eq!(places, [(2, 3), (5, 5)]);
+        assert_eq!(
+            name.components[1].component,
+            Component {
+                kind: 256,
+                value: b"b"
+            }
+        );
+    }
+
+    #[test]
+    fn known_and_optional_types_are_plain_components() {
+        let bytes = [7, 6, 0x21, 0, 0x80, 0, 0x07, 0];
+        assert_eq!(
+            Name::load(&bytes, Role::Packet).unwrap().components.len(),
+            3
+        );
+    }
+
+    #[test]
+    fn malformed_names() {
+        let malformed: [&[u8]; 11] = [
+            &[],
+            &[7],
+            &[7, 1],
+            &[7, 1, 8],
+            &[8, 0],
+            &[7, 0, 0],
+            &[7, 2, 0, 0],
+            &[7, 3, 8, 2, 97],
+            &[253, 0, 7, 0],
+            &[7, 253, 0, 0],
+            &[7, 6, 254, 0, 1, 0, 0, 0],
+        ];
+        for bytes in malformed {
+            assert_eq!(refusal(bytes), Some(22), "{bytes:?}");
+        }
+        assert_eq!(refusal(&[7, 0]), None);
+        assert_eq!(refusal(&[7, 4, 253, 255, 255, 0]), None);
+    }
+
+    #[test]
+    fn a_value_holds_one_component() {
+        assert!(single_component(&[8, 0]).is_ok());
+        assert_eq!(single_component(&[]), Err(Malformed));
+        assert_eq!(single_component(&[8, 0, 8, 0]), Err(Malformed));
+        assert_eq!(single_component(&[8, 0, 8]), Err(Malformed));
+        assert_eq!(single_component(&[254, 0, 1, 0, 0, 0]), Err(Malformed));
+    }
+}

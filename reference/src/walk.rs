@@ -1,0 +1,142 @@
+//! The depth-first walk of a name through a model.
+//!
+//! Only models that [`crate::verdict::load`] accepts may be walked.
+
+use std::ops::ControlFlow;
+
+use crate::model::{
+    Argument, Call, Constraint, ConstraintOption, Function, Model, PatternEdge, Term,
+};
+use crate::names::{Component, PlacedComponent};
+use crate::verdict::MAX_TAG;
+
+/// The components bound to Tags.
+#[derive(Clone, Debug)]
+pub struct Bindings<'n> {
+    slots: [Option<PlacedComponent<'n>>; MAX_TAG as usize],
+}
+
+impl Default for Bindings<'_> {
+    fn default() -> Self {
+        Bindings {
+            slots: [None; MAX_TAG as usize],
+        }
+    }
+}
+
+impl<'n> Bindings<'n> {
+    /// What is bound to each Tag, from Tag 1.
+    pub fn slots(&self) -> &[Option<PlacedComponent<'n>>] {
+        &self.slots
+    }
+
+    /// How many Tags are bound.
+    pub fn count(&self) -> usize {
+        self.slots.iter().flatten().count()
+    }
+
+    /// The component bound to a Tag.
+    pub fn get(&self, tag: u64) -> Option<Component<'n>> {
+        self.slots[slot_of(tag)].map(|bound| bound.component)
+    }
+
+    /// Binds a Tag unless it is bound; tells whether it wasn't.
+    pub fn bind_if_unbound(&mut self, tag: u64, component: PlacedComponent<'n>) -> bool {
+        let slot = &mut self.slots[slot_of(tag)];
+        let was_unbound = slot.is_none();
+        slot.get_or_insert(component);
+        was_unbound
+    }
+
+    /// Takes a Tag's binding away.
+    pub fn unbind(&mut self, tag: u64) {
+        self.slots[slot_of(tag)] = None;
+    }
+}
+
+fn slot_of(tag: u64) -> usize {
+    tag as usize - 1
+}
+
+/// Visits the nodes that the name matches, in the order of the walk, with the
+/// bindings of each match. Goes on while the visitor says so; the bindings are
+/// afterwards as they were before.
+pub fn visit_matches<'n, T>(
+    model: &Model,
+    name: &[PlacedComponent<'n>],
+    bindings: &mut Bindings<'n>,
+    visit: &mut impl FnMut(usize, &mut Bindings<'n>) -> ControlFlow<T>,
+) -> ControlFlow<T> {
+    walk_from(model, model.start, name, bindings, visit)
+}
+
+fn walk_from<'n, T>(
+    model: &Model,
+    id: u64,
+    components: &[PlacedComponent<'n>],
+    bindings: &mut Bindings<'n>,
+    visit: &mut impl FnMut(usize, &mut Bindings<'n>) -> ControlFlow<T>,
+) -> ControlFlow<T> {
+    let index = id as usize;
+    let Some((&first, rest)) = components.split_first() else {
+        return visit(index, bindings);
+    };
+    let node = &model.nodes[index];
+    for edge in &node.value_edges {
+        if edge.value == first.component {
+            walk_from(model, edge.destination, rest, bindings, visit)?;
+        }
+    }
+    for edge in &node.pattern_edges {
+        if may_cross(edge, first.component, bindings) {
+            let is_new = bindings.bind_if_unbound(edge.tag, first);
+            let flow = walk_from(model, edge.destination, rest, bindings, visit);
+            if is_new {
+                bindings.unbind(edge.tag);
+            }
+            flow?;
+        }
+    }
+    ControlFlow::Continue(())
+}
+
+/// Whether the edge may be crossed with this component under the bindings as
+/// they stand before the edge.
+pub fn may_cross(edge: &PatternEdge, component: Component, bindings: &Bindings) -> bool {
+    bindings
+        .get(edge.tag)
+        .is_none_or(|bound| bound == component)
+        && edge
+            .constraints
+            .iter()
+            .all(|constraint| constraint_holds(constraint, component, bindings))
+}
+
+fn constraint_holds(constraint: &Constraint, component: Component, bindings: &Bindings) -> bool {
+    constraint
+        .options
+        .iter()
+        .any(|option| option_holds(option, component, bindings))
+}
+
+fn option_holds(option: &ConstraintOption, component: Component, bindings: &Bindings) -> bool {
+    option.terms.iter().all(|term| match term {
+        Term::Value(value) => *value == component,
+        Term::Tag(tag) => bindings.get(*tag) == Some(component),
+        Term::Call(call) => call_holds(call, component, bindings),
+    })
+}
+
+fn call_holds(call: &Call, component: Component, bindings: &Bindings) -> bool {
+    let argument = |index: usize| match call.arguments.get(index)? {
+        Argument::Value(value) => Some(*value),
+        Argument::Tag(tag) => bindings.get(*tag),
+    };
+    match call.function {
+        Some(Function::Eq) => argument(0) == Some(component),
+        Some(Function::EqType) => argument(0).is_some_and(|other| other.kind == component.kind),
+        Some(Function::IsValidId) => component.value.len() == 6,
+        Some(Function::IsValidYear) => component.value.len() == 4,
+        None => false,
+    }
+}

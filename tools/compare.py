@@ -1,0 +1,140 @@
+#!/usr/bin/env python3
+"""Compares lvs_cases and lvs_check with the reference checker (reference/, in Rust) on generated cases.
+
+usage: compare.py [CASES [SEED]]
+
+CASES cases (default 100,000) in batches of 20,000, one seed each, beginning with SEED (default 1). In each batch
+- lvs_cases must print the reference's line for every case;
+- lvs_check must print the reference's lines for the first signing cases, given the model as its file;
+- demand 3: the cases of gap_cases must get their lines.
+A difference is printed with its seed and index, and `gen_cases SEED 1 INDEX` writes that case alone. The last lines say how often each
+answer came up.
+"""
+import collections
+import itertools
+import os
+import pathlib
+import shutil
+import subprocess
+import sys
+import tempfile
+
+ROOT = pathlib.Path(__file__).resolve().parent.parent
+OURS = ROOT / "target/bin"
+REFERENCE = ROOT / "reference/target/release"
+BATCH = 20_000
+RUNS = 100  # of lvs_check, in a batch
+LIMIT = 2048  # lvs_check's, for the length of a name
+FIELDS = {b"V": 1, b"M": 3, b"S": 3}
+
+
+def build_reference():
+    cargo = shutil.which("cargo") or os.path.expanduser("~/.cargo/bin/cargo")
+    subprocess.run([cargo, "build", "--quiet", "--release", "--offline"], cwd=ROOT / "reference", check=True)
+
+
+def lines_of(program, given, **where):
+    """The lines that a program prints, given a file or bytes."""
+    if isinstance(given, bytes):
+        where["input"] = given
+    else:
+        where["stdin"] = open(given, "rb")
+    return subprocess.run([program], stdout=subprocess.PIPE, check=True, **where).stdout.decode().splitlines()
+
+
+def differences(ours, expected):
+    """(index, our line, the line expected) wherever the two differ."""
+    for index, (a, b) in enumerate(itertools.zip_longest(ours, expected)):
+        if a != b:
+            yield index, a, b
+
+
+def cases_of(file):
+    """(letter, fields) of each case."""
+    with open(file, "rb") as given:
+        while letter := given.read(1):
+            yield letter, [given.read(int.from_bytes(given.read(4), "big")) for _ in range(FIELDS[letter])]
+
+
+def field(data):
+    return len(data).to_bytes(4, "big") + data
+
+
+def request(name):
+    return len(name).to_bytes(2, "big") + name
+
+
+def checker_lines(verdict, signing, names):
+    """What lvs_check prints for one request, by the reference's verdict and its answer to the signing call."""
+    word, number, *node = verdict.split()
+    if word == "refused":
+        return [f"model refused {number} at {node[0]}"]
+    answer = "broken" if any(len(name) > LIMIT for name in names) else signing
+    if answer.startswith("refused"):
+        answer = " ".join(answer.split()[:2])
+    return [f"model {number} nodes", f"1 {answer}"]
+
+
+def compare_checker(file, expected, folder):
+    """Runs lvs_check on the first signing cases. Answers how many it ran, and the differences."""
+    signing = ((index, fields) for index, (letter, fields) in enumerate(cases_of(file)) if letter == b"S")
+    wrong = ran = 0
+    for index, (model, packet, key) in itertools.islice(signing, RUNS):
+        (folder / "model.lvs").write_bytes(model)
+        verdict = lines_of(REFERENCE / "answer_cases", b"V" + field(model))[0]
+        ours = lines_of(OURS / "lvs_check", b"\x4d\x4b" + request(packet) + request(key), cwd=folder)
+        ran += 1
+        if ours != checker_lines(verdict, expected[index], (packet, key)):
+            wrong += 1
+            print(f"  lvs_check, case {index}: {ours}, the reference: {verdict}, {expected[index]}")
+    return ran, wrong
+
+
+def kind(line):
+    """What a line is counted as."""
+    words = line.split()
+    return " ".join(words[:2]) if words[0] in ("refused", "no", "not") else words[0]
+
+
+def report(what, seed, ours, expected):
+    found = list(differences(ours, expected))
+    for index, a, b in found[:5]:
+        print(f"  {what}, seed {seed}, case {index}: {str(a)[:100]}, the reference: {str(b)[:100]}")
+    return len(found)
+
+
+def compare_batch(seed, count, folder, answers):
+    cases, gaps, lines = folder / "cases", folder / "gaps", folder / "lines"
+    with open(cases, "wb") as out:
+        subprocess.run([REFERENCE / "gen_cases", str(seed), str(count)], stdout=out, check=True)
+    expected = lines_of(REFERENCE / "answer_cases", cases)
+    wrong = report("lvs_cases", seed, lines_of(OURS / "lvs_cases", cases), expected)
+    answers.update(map(kind, expected))
+    ran, bad = compare_checker(cases, expected, folder)
+    with open(gaps, "wb") as out:
+        subprocess.run([REFERENCE / "gap_cases", str(seed), str(count // 100), lines], stdout=out, check=True)
+    demanded = lines.read_text().splitlines()
+    wrong += bad + report("demand 3", seed, lines_of(OURS / "lvs_cases", gaps), demanded)
+    print(f"seed {seed}: {len(expected)} cases, {ran} runs of lvs_check, {len(demanded)} cases of demand 3, {wrong} differences", flush=True)
+    return len(expected) + ran + len(demanded), wrong
+
+
+def main():
+    count = int(sys.argv[1]) if len(sys.argv) > 1 else 100_000
+    seed = int(sys.argv[2]) if len(sys.argv) > 2 else 1
+    build_reference()
+    answers = collections.Counter()
+    calls = wrong = 0
+    with tempfile.TemporaryDirectory() as folder:
+        while count > 0:
+            made, bad = compare_batch(seed, min(count, BATCH), pathlib.Path(folder), answers)
+            calls, wrong = calls + made, wrong + bad
+            count, seed = count - BATCH, seed + 1
+    for answer, times in sorted(answers.items()):
+        print(f"{times:>10} {answer}")
+    print(f"{calls} comparisons, {wrong} differences")
+    return 1 if wrong or not calls else 0
+
+
+if __name__ == "__main__":
+    sys.exit(main())

@@ -1,0 +1,179 @@
+#!/usr/bin/env python3
+"""The speed of lvs_cases and of the reference checker (reference/, in Rust, release build) on the same cases, and the ratios.
+
+usage: speed.py
+
+A case is run many times by both programs. What reading and printing it costs is taken off: the same run with a model of the same length
+whose first byte is wrong, which both refuse at once. Instructions are counted by valgrind --tool=callgrind; times are user time, the
+least of several runs in turn. `a byte` is our instructions for each byte of the model.
+"""
+import os
+import pathlib
+import re
+import resource
+import subprocess
+import sys
+import tempfile
+
+ROOT = pathlib.Path(__file__).resolve().parent.parent
+sys.path[:0] = [str(ROOT / "tests/cases"), str(ROOT / "tools")]
+sys.dont_write_bytecode = True
+import build  # noqa: E402
+from compare import build_reference, OURS, REFERENCE  # noqa: E402
+
+PROGRAMS = OURS / "lvs_cases", REFERENCE / "answer_cases"
+COUNTED = 4  # times that a case is run under callgrind
+TIMED_SECONDS = 0.2  # for one timed run, about
+TURNS = 5
+
+
+# models of about a given size
+
+
+def two_nodes(edge, size):
+    """As many of the edges from Node 0 to Node 1 as there is room for."""
+    last = build.node(1, build.parent(0))
+    room = size - len(build.model(build.node(0, bytes(300)), last))
+    return build.model(build.node(0, edge * (room // len(edge))), last)
+
+
+def value_edges(size):
+    return two_nodes(build.value_edge(1, "part"), size)
+
+
+def pattern_edges(size):
+    return two_nodes(build.pattern_edge(1, 1), size)
+
+
+def constraints(size):
+    call = build.call("$eq", build.tag(2))
+    return two_nodes(build.pattern_edge(1, 1, build.constraint(build.option(call), build.option(build.value("score")))), size)
+
+
+def optional_elements(size):
+    skipped = build.element(0x80, b"")
+    return two_nodes(build.element(build.VALUE_EDGE, build.node_id(1), skipped * 4, build.value("part"), skipped * 4), size)
+
+
+def chain(size):
+    """256 Nodes or fewer, one after the other, the room shared out as RuleNames."""
+    count = min(256, size // 32)
+    name = build.rule_name("#" + "n" * (size // count - 26))
+    nodes = []
+    for i in range(count):
+        up = [build.parent(i - 1)] if i else []
+        down = [build.value_edge(i + 1, "p")] if i + 1 < count else []
+        nodes.append(build.node(i, *up, name, *down))
+    return build.model(*nodes)
+
+
+def refused_at_last(size):
+    """A fault of the last rule, in the last Node that has edges."""
+    fault = build.pattern_edge(3, 1, build.constraint(build.option(build.call("$no"))))
+    return value_edges(size - 64) + build.node(2, fault) + build.node(3, build.parent(2))
+
+
+SHAPES = value_edges, pattern_edges, constraints, optional_elements, chain, refused_at_last
+
+
+# signing calls: (what, model, packet name, key name)
+
+
+def tutorial():
+    model = (ROOT / "example/model.lvs").read_bytes()
+    article, author = build.path("/ndn/blog/100001/post/2022/1"), "/ndn/blog/author/%s/KEY/1/000001/1"
+    yield "tutorial, allowed", model, article, build.path(author % "100001")
+    yield "tutorial, not allowed", model, article, build.path(author % "100002")
+
+
+def long_names():
+    """32 components and 1,024 bytes in each name, every component bound in one and compared in the other."""
+    count = 32
+    nodes = [build.node(0, build.pattern_edge(1, 1))]
+    for i in range(1, count):
+        nodes.append(build.node(i, build.parent(i - 1), build.pattern_edge(i + 1, i + 1)))
+    nodes.append(build.node(count, build.parent(count - 1), build.signer(count)))
+    name = build.name(*(f"{i:029}" for i in range(count - 1)), "x" * 57)
+    assert len(name) == 1024
+    yield "long names", build.model(*nodes, patterns=count), name, name
+
+
+def many_nodes():
+    """254 ways out of the start, and the last of them is taken."""
+    ways = [build.value_edge(i, f"{i:03}") for i in range(1, 255)]
+    nodes = [build.node(0, *ways), *(build.node(i, build.parent(0), build.signer(i)) for i in range(1, 255))]
+    yield "many nodes", build.model(*nodes), build.path("/254"), build.path("/254")
+
+
+def backtracking():
+    """Two ways from each Node to the next, and no signer: each pair of paths is tried."""
+    both = lambda i: build.pattern_edge(i, 1) + build.pattern_edge(i, 2)
+    nodes = [build.node(i, *([build.parent(i - 1)] if i else []), both(i + 1)) for i in range(6)]
+    name = build.path("/a/a/a/a/a/a")
+    yield "deep backtracking", build.model(*nodes, build.node(6, build.parent(5)), patterns=2), name, name
+
+
+def workloads():
+    """(what, model, case)"""
+    for shape in SHAPES:
+        for size in (1 << i for i in range(10, 16)):
+            model = shape(size)
+            assert size // 2 < len(model) <= size, (shape.__name__, size, len(model))
+            yield f"verdict, {shape.__name__}, {size >> 10} KiB", model, build.verdict(model)
+    for calls in (tutorial, long_names, many_nodes, backtracking):
+        for what, model, packet, key in calls():
+            yield what, model, build.sign(model, packet, key)
+
+
+# measuring
+
+
+def spoiled(case):
+    """The same with a model that is refused at once."""
+    return case[:5] + b"\0" + case[6:]
+
+
+def instructions(program, case):
+    with tempfile.TemporaryFile() as given:
+        given.write(case * COUNTED)
+        given.seek(0)
+        counter = ["valgrind", "--tool=callgrind", "--callgrind-out-file=/dev/null", str(program)]
+        ran = subprocess.run(counter, stdin=given, capture_output=True, check=True)
+    return int(re.search(rb"Collected : (\d+)", ran.stderr).group(1)) / COUNTED
+
+
+def seconds(program, given):
+    os.lseek(given.fileno(), 0, os.SEEK_SET)
+    before = resource.getrusage(resource.RUSAGE_CHILDREN).ru_utime
+    subprocess.run([program], stdin=given, stdout=subprocess.DEVNULL, check=True)
+    return resource.getrusage(resource.RUSAGE_CHILDREN).ru_utime - before
+
+
+def times(case, count):
+    """The least time of each program for the case and for the spoiled one."""
+    with tempfile.TemporaryFile() as real, tempfile.TemporaryFile() as empty:
+        for _ in range(count):
+            real.write(case)
+            empty.write(spoiled(case))
+        real.flush(), empty.flush()
+        turns = [[seconds(program, given) for program in PROGRAMS for given in (real, empty)] for _ in range(TURNS)]
+    return [min(column) for column in zip(*turns)]
+
+
+def row(what, model, case):
+    ours, theirs = (instructions(program, case) - instructions(program, spoiled(case)) for program in PROGRAMS)
+    count = max(20, int(TIMED_SECONDS * 2e9 / max(ours, 1)))
+    count = min(count, (256 << 20) // len(case))
+    a, a0, b, b0 = times(case, count)
+    print(f"{what:<36}{ours:>12.0f}{theirs:>12.0f}{ours / theirs:>8.2f}{(a - a0) / (b - b0):>8.2f}{ours / len(model):>8.1f}", flush=True)
+
+
+def main():
+    build_reference()
+    print(f"{'':<36}{'ours':>12}{'reference':>12}{'ratio':>8}{'time':>8}{'a byte':>8}")
+    for what, model, case in workloads():
+        row(what, model, case)
+
+
+if __name__ == "__main__":
+    main()
