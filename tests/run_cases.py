@@ -3,7 +3,7 @@
 
 tests/cases/NAME.py builds cases of the driver, each with the line that it must get, by reasoning from the papers and not by running
 anything. Their bytes and lines are stored beside it, NAME.in and NAME.out, for other checkers to be compared with: `--store` writes
-them anew, and a plain run refuses them where they differ. shop.py has whole runs of lvs_check, driver.py of lvs_cases.
+them anew, and a plain run refuses them where they differ. checker.py has whole runs of lvs_check, driver.py of lvs_cases.
 
 usage: run_cases.py [--store] [FOLDER-OF-THE-PROGRAMS]
 """
@@ -84,9 +84,9 @@ def driver_runs(program):
         yield what, run(program, given, CASES), expected
 
 
-def shop_runs(program):
+def checker_runs(program):
     """Each run in a folder with its model.lvs alone."""
-    for what, model, given, expected in importlib.import_module("shop").runs():
+    for what, model, given, expected in importlib.import_module("checker").runs():
         with tempfile.TemporaryDirectory() as folder:
             if model is not None:
                 (pathlib.Path(folder) / "model.lvs").write_bytes(model)
@@ -94,8 +94,8 @@ def shop_runs(program):
 
 
 def example_is_document_01s():
-    """What rt itself runs lvs_check on is the first of shop.py's answers."""
-    _, model, given, expected = next(importlib.import_module("shop").answers())
+    """What rt itself runs lvs_check on is the first of checker.py's answers."""
+    _, model, given, expected = next(importlib.import_module("checker").answers())
     crate = ROOT / "crates/lvs_check"
     parts = (crate / "data/model.lvs", model), (crate / "stdin", given), (crate / "stdout", expected.encode())
     different = [file.name for file, contents in parts if file.read_bytes() != contents]
@@ -133,7 +133,7 @@ def main():
     programs = pathlib.Path(words[0]).resolve() if words else ROOT / "target/bin"
     wrong = sum(check_table(name, programs / "lvs_cases") for name in TABLES)
     wrong += check_runs("driver", driver_runs(programs / "lvs_cases"))
-    wrong += check_runs("shop", shop_runs(programs / "lvs_check"))
+    wrong += check_runs("checker", checker_runs(programs / "lvs_check"))
     wrong += example_is_document_01s()
     wrong += check_uris()
     return 1 if wrong else 0

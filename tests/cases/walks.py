@@ -5,7 +5,7 @@ from limits import LOOP
 AB = path("/a/b")  # its components stand at 2 and 5, with 3 bytes each
 
 
-def first_slip():
+def left_behind():
     """A binding left behind after going back from a failed branch, so that a later branch is refused."""
     # the first branch binds Tag 1 to a and fails at "x"; the second needs Tag 1 for b
     rebound = tree([(1,), "x", ()], [(2,), (1,), (4,)])
@@ -41,7 +41,7 @@ def first_slip():
     yield "slip 1: in the key's walk", sign(keys, path("/a/p"), path("/k/b/c")), "allowed 4 8"
 
 
-def second_slip():
+def first_match_only():
     """Looking for the key only from the packet's first match."""
     # /a/p matches Node 2 first, which has no signer
     unsigned = tree([(1,), "p", ()], [(2,), "p", (6,)], ["k", "b", ()])
@@ -56,7 +56,7 @@ def second_slip():
     yield "slip 2: the key's second match", sign(second_key, path("/p"), path("/k/b")), "allowed 1 5"
 
 
-def third_slip():
+def bound_too_soon():
     """Binding the Tag before its own Constraints are tried."""
     own = tree([(1, constraint(option(tag(1)))), (1,)])
     yield "slip 3: an option with the edge's own Tag", match(own, path("/a"), OLD), kept("no match")
@@ -212,5 +212,5 @@ def texts():
 
 
 def cases():
-    for part in first_slip, second_slip, third_slip, parents, later_branches, order, starts, bindings, constraints, functions, texts:
+    for part in left_behind, first_match_only, bound_too_soon, parents, later_branches, order, starts, bindings, constraints, functions, texts:
         yield from part()

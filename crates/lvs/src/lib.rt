@@ -64,7 +64,7 @@ pub fn match_name(model: &[u8], name: &[u8], buffer: &mut [u32]) -> MatchAnswer
                     node: 0,
                 };
             }
-            let mut slots = [0u32; 256];
+            let mut slots = [0u32; lvs_spec::BINDING_WORDS];
             match lvs_walk::find_match(model, name, from, &mut slots) {
                 Found::Nothing => MatchAnswer::NoMatch,
                 Found::At(node, _) => MatchAnswer::Match {

@@ -1,4 +1,4 @@
-// The shop's program of document 01: may this key sign this packet, by the model in `model.lvs`?
+// Document 01's program: may this key sign this packet, by the model in `model.lvs`?
 //
 // A request on standard input is the mark 4D 4B, then a 2-byte length (high byte first) and the packet name, then such a length and the
 // key name. Each gets one line. Nothing is read ahead, so an answer stands as soon as its request does.

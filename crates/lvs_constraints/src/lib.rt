@@ -13,22 +13,15 @@ ghost use Rattle.lvs_spec.specs.Walk.{boundTo, argumentIn, callHolds, termHolds
 ghost use Rattle.lvs_constraints.specs.Bindings.{textFrom, bindingsOf, SlotOf};
 ghost use Rattle.lvs_constraints.specs.Arguments.{ArgumentAt};
 use lvs_fields::Function;
+use lvs_spec::types::CONSTRAINT;
+use lvs_spec::types::CONSTRAINT_OPTION;
+use lvs_spec::types::FN_ID;
+use lvs_spec::types::TAG;
+use lvs_spec::types::USER_FN_ARG;
+use lvs_spec::types::USER_FN_CALL;
+use lvs_spec::types::VALUE;
 use tlv::Place;
 use tlv::Read;
-
-const VALUE: u32 = 0x21;
-
-const TAG: u32 = 0x23;
-
-const FN_ID: u32 = 0x27;
-
-const USER_FN_CALL: u32 = 0x31;
-
-const USER_FN_ARG: u32 = 0x33;
-
-const CONSTRAINT_OPTION: u32 = 0x41;
-
-const CONSTRAINT: u32 = 0x43;
 
 // The two words of a Tag.
 pub struct Slot {

@@ -7,35 +7,6 @@ use tlv::IntegerRead;
 use tlv::Place;
 use tlv::Read;
 
-// The types of the elements that make up a Model.
-pub const VALUE: u32 = 0x21;
-
-pub const TAG: u32 = 0x23;
-
-pub const NODE_ID: u32 = 0x25;
-
-pub const FN_ID: u32 = 0x27;
-
-pub const USER_FN_CALL: u32 = 0x31;
-
-pub const USER_FN_ARG: u32 = 0x33;
-
-pub const CONSTRAINT_OPTION: u32 = 0x41;
-
-pub const CONSTRAINT: u32 = 0x43;
-
-pub const VALUE_EDGE: u32 = 0x51;
-
-pub const PATTERN_EDGE: u32 = 0x53;
-
-pub const SIGN_CONSTRAINT: u32 = 0x55;
-
-pub const PARENT: u32 = 0x57;
-
-pub const NODE: u32 = 0x63;
-
-pub const TAG_SYMBOL: u32 = 0x67;
-
 // A part of a slice.
 pub struct Part {
     pub start: usize,

@@ -11,9 +11,6 @@ ghost use Rattle.tlv.specs.Element.{element};
 ghost use Rattle.lvs_spec.specs.Leaves as leaves;
 ghost use Rattle.lvs_grammar.specs.Types.{kindOf, leafOf};
 
-// A component's type runs from 1 to this.
-const MAX_COMPONENT_TYPE: u32 = 65535;
-
 // Whether the bytes are a leaf of this sort in a container of this kind.
 pub fn leaf_ok(s: &[u8], kind: Kind, leaf: Leaf) -> bool
     ensures { λ r. ⌜ r ≡ leaves.leafIn (kindOf kind) (leafOf leaf) (now (s .entry)) ⌝ }
@@ -48,7 +45,7 @@ fn one_component(s: &[u8]) -> bool
             end,
             next: _,
         } => {
-            if MAX_COMPONENT_TYPE < typ {
+            if lvs_spec::MAX_COMPONENT_TYPE < typ {
                 return false;
             }
             end == s.len()

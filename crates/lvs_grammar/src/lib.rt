@@ -76,7 +76,7 @@ fn other_version(model: &[u8]) -> bool
 fn is_other_version(typ: u32, inside: &[u8]) -> bool
     ensures { λ r. ⌜ r ≡ isOtherVersion (record { type = typ; inside = now (inside .entry) }) ⌝ }
 {
-    if typ != types::VERSION {
+    if typ != lvs_spec::types::VERSION {
         return false;
     }
     if inside.len() != 4 {

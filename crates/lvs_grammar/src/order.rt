@@ -1,6 +1,6 @@
 // The order inside each container (document 01, "Elements"). A state counts the items of the order that are behind.
-use super::types;
 use super::types::Kind;
+use lvs_spec::types;
 ghost use mathlib.Core.Path.{_≡_};
 ghost use lib.ListN.{drop};
 ghost use Rattle.lvs_spec.specs.Grammar.{order, step, final, model, node, valueEdge, patternEdge, constraint, constraintOption, userFnCall, userFnArg, tagSymbol};

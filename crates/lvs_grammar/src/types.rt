@@ -1,41 +1,8 @@
 // What an element is: its type number alone decides (document 01, "Elements").
+use lvs_spec::types;
 ghost use mathlib.Core.Path.{_≡_};
 ghost use Rattle.lvs_spec.specs.Grammar.{meaning, unknown};
 ghost use Rattle.lvs_grammar.specs.Types.{meaningOf, isOptional};
-
-pub const VALUE: u32 = 0x21;
-
-pub const TAG: u32 = 0x23;
-// Also StartId and Destination.
-pub const NODE_ID: u32 = 0x25;
-
-pub const FN_ID: u32 = 0x27;
-// Also RuleName.
-pub const IDENTIFIER: u32 = 0x29;
-
-pub const USER_FN_CALL: u32 = 0x31;
-
-pub const USER_FN_ARG: u32 = 0x33;
-
-pub const CONSTRAINT_OPTION: u32 = 0x41;
-
-pub const CONSTRAINT: u32 = 0x43;
-
-pub const VALUE_EDGE: u32 = 0x51;
-
-pub const PATTERN_EDGE: u32 = 0x53;
-
-pub const SIGN_CONSTRAINT: u32 = 0x55;
-
-pub const PARENT: u32 = 0x57;
-
-pub const VERSION: u32 = 0x61;
-
-pub const NODE: u32 = 0x63;
-
-pub const TAG_SYMBOL: u32 = 0x67;
-
-pub const NAMED_PATTERN_CNT: u32 = 0x69;
 
 // The nine containers: what holds elements.
 pub enum Kind {
@@ -74,23 +41,23 @@ pub fn meaning_of(typ: u32) -> Meaning
     ensures { λ r. ⌜ meaningOf r ≡ meaning typ ⌝ }
 {
     match typ {
-        VALUE => Meaning::Known(Known::Plain(Leaf::Value)),
-        TAG => Meaning::Known(Known::Plain(Leaf::Integer)),
-        NODE_ID => Meaning::Known(Known::Plain(Leaf::Integer)),
-        FN_ID => Meaning::Known(Known::Plain(Leaf::FunctionId)),
-        IDENTIFIER => Meaning::Known(Known::Plain(Leaf::Text)),
-        USER_FN_CALL => Meaning::Known(Known::Container(Kind::UserFnCall)),
-        USER_FN_ARG => Meaning::Known(Known::Container(Kind::UserFnArg)),
-        CONSTRAINT_OPTION => Meaning::Known(Known::Container(Kind::ConstraintOption)),
-        CONSTRAINT => Meaning::Known(Known::Container(Kind::Constraint)),
-        VALUE_EDGE => Meaning::Known(Known::Container(Kind::ValueEdge)),
-        PATTERN_EDGE => Meaning::Known(Known::Container(Kind::PatternEdge)),
-        SIGN_CONSTRAINT => Meaning::Known(Known::Plain(Leaf::Integer)),
-        PARENT => Meaning::Known(Known::Plain(Leaf::Integer)),
-        VERSION => Meaning::Known(Known::Plain(Leaf::Version)),
-        NODE => Meaning::Known(Known::Container(Kind::Node)),
-        TAG_SYMBOL => Meaning::Known(Known::Container(Kind::TagSymbol)),
-        NAMED_PATTERN_CNT => Meaning::Known(Known::Plain(Leaf::Integer)),
+        types::VALUE => Meaning::Known(Known::Plain(Leaf::Value)),
+        types::TAG => Meaning::Known(Known::Plain(Leaf::Integer)),
+        types::NODE_ID => Meaning::Known(Known::Plain(Leaf::Integer)),
+        types::FN_ID => Meaning::Known(Known::Plain(Leaf::FunctionId)),
+        types::IDENTIFIER => Meaning::Known(Known::Plain(Leaf::Text)),
+        types::USER_FN_CALL => Meaning::Known(Known::Container(Kind::UserFnCall)),
+        types::USER_FN_ARG => Meaning::Known(Known::Container(Kind::UserFnArg)),
+        types::CONSTRAINT_OPTION => Meaning::Known(Known::Container(Kind::ConstraintOption)),
+        types::CONSTRAINT => Meaning::Known(Known::Container(Kind::Constraint)),
+        types::VALUE_EDGE => Meaning::Known(Known::Container(Kind::ValueEdge)),
+        types::PATTERN_EDGE => Meaning::Known(Known::Container(Kind::PatternEdge)),
+        types::SIGN_CONSTRAINT => Meaning::Known(Known::Plain(Leaf::Integer)),
+        types::PARENT => Meaning::Known(Known::Plain(Leaf::Integer)),
+        types::VERSION => Meaning::Known(Known::Plain(Leaf::Version)),
+        types::NODE => Meaning::Known(Known::Container(Kind::Node)),
+        types::TAG_SYMBOL => Meaning::Known(Known::Container(Kind::TagSymbol)),
+        types::NAMED_PATTERN_CNT => Meaning::Known(Known::Plain(Leaf::Integer)),
         _ => unknown_type(typ),
     }
 }

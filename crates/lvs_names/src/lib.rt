@@ -12,8 +12,6 @@ use tlv::Read;
 
 const NAME: u32 = 7;
 
-const MAX_COMPONENT_TYPE: u32 = 65535;
-
 pub enum NameRead {
     // The place of the first component.
     Good(usize),
@@ -99,7 +97,7 @@ fn count(name: &[u8], from: usize) -> Counted
                 end: _,
                 next,
             } => {
-                if MAX_COMPONENT_TYPE < typ {
+                if lvs_spec::MAX_COMPONENT_TYPE < typ {
                     return Counted::Malformed;
                 }
                 n += 1;

@@ -22,22 +22,15 @@ ghost use Rattle.lvs_walk.specs.Crossing.{componentAt, edgeType, crossin
 use lvs_constraints::Slot;
 use lvs_fields::Part;
 use lvs_names::ComponentRead;
+use lvs_spec::types::NODE;
+use lvs_spec::types::NODE_ID;
+use lvs_spec::types::PATTERN_EDGE;
+use lvs_spec::types::SIGN_CONSTRAINT;
+use lvs_spec::types::TAG;
+use lvs_spec::types::VALUE;
+use lvs_spec::types::VALUE_EDGE;
 use tlv::Place;
 use tlv::Read;
-
-const TAG: u32 = 0x23;
-
-const NODE_ID: u32 = 0x25;
-
-const VALUE: u32 = 0x21;
-
-const VALUE_EDGE: u32 = 0x51;
-
-const PATTERN_EDGE: u32 = 0x53;
-
-const SIGN_CONSTRAINT: u32 = 0x55;
-
-const NODE: u32 = 0x63;
 
 // An edge as a part of its Node, and the place behind it.
 pub enum EdgeRead {
@@ -420,7 +413,7 @@ pub fn find_match(model: &[u8], name: &[u8], from: usize, slots: &mut [u32]) -> 
     requires { ⌜ (length (now name) ≤ maxNameBytes) × (now slots ≡ clear) ⌝ }
     ensures { λ r. ⌜ FirstMatch (modelOf (now (model .entry))) (rowFrom (now (name .entry)) from) (now (name .entry)) r (now (slots .exit)) ⌝ }
 {
-    let mut places = [0u32; 256];
+    let mut places = [0u32; lvs_spec::MAX_NODES];
     let n = node_places(model, &mut places);
     let start = lvs_fields::number_in(model, NODE_ID);
     walk(
@@ -449,10 +442,10 @@ pub fn find_pair<'a>(
     requires { ⌜ (length (now packet) ≤ maxNameBytes) × (length (now key) ≤ maxNameBytes) ⌝ }
     ensures { λ r. ⌜ FirstPair (modelOf (now (model .entry))) (rowFrom (now (packet .entry)) «packet_from») (rowFrom (now (key .entry)) «key_from») r ⌝ }
 {
-    let mut places = [0u32; 256];
+    let mut places = [0u32; lvs_spec::MAX_NODES];
     let n = node_places(model, &mut places);
     let start = lvs_fields::number_in(model, NODE_ID);
-    let mut slots = [0u32; 256];
+    let mut slots = [0u32; lvs_spec::BINDING_WORDS];
     walk(
         model,
         &places[..n],
