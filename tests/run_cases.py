@@ -12,6 +12,7 @@ import pathlib
 import subprocess
 import sys
 import tempfile
+import time
 
 ROOT = pathlib.Path(__file__).resolve().parent.parent
 CASES = ROOT / "tests/cases"
@@ -42,6 +43,16 @@ def run(program, given, folder):
     if ran.returncode != 0:
         return f"status {ran.returncode}"
     return ran.stdout.decode()
+
+
+def run_in_pieces(program, given, folder):
+    """The same with an input that comes a few bytes at a time, so that reads answer less than they ask for."""
+    with subprocess.Popen([program], stdin=subprocess.PIPE, stdout=subprocess.PIPE, cwd=folder) as running:
+        for i in range(0, len(given), 5):
+            running.stdin.write(given[i : i + 5])
+            running.stdin.flush()
+            time.sleep(0.001)
+        return running.communicate(timeout=60)[0].decode()
 
 
 def short(text):
@@ -80,8 +91,10 @@ def check_runs(name, runs):
 
 
 def driver_runs(program):
-    for what, given, expected in importlib.import_module("driver").runs():
+    driver = importlib.import_module("driver")
+    for what, given, expected in driver.runs():
         yield what, run(program, given, CASES), expected
+    yield "in pieces", run_in_pieces(program, driver.GOOD + driver.WORDS, CASES), driver.LINE + driver.WORDS_LINE
 
 
 def checker_runs(program):
@@ -91,6 +104,8 @@ def checker_runs(program):
             if model is not None:
                 (pathlib.Path(folder) / "model.lvs").write_bytes(model)
             yield what, run(program, given, folder), expected
+    crate = ROOT / "crates/lvs_check"
+    yield "in pieces", run_in_pieces(program, (crate / "stdin").read_bytes(), crate / "data"), (crate / "stdout").read_text()
 
 
 def example_is_document_01s():

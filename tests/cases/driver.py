@@ -5,6 +5,7 @@ from build import *
 GOOD = verdict(B)
 LINE = "accepted 2\n"
 WORDS = match(B, SLASH_A, OLD)
+WORDS_LINE = matched(1, (1, 2, 3)) + "\n"
 
 
 def runs():
@@ -28,4 +29,4 @@ def runs():
     yield "the largest length", b"V\xff\xff\xff\xff" + GOOD, "broken\n"
     # more than any buffer of the driver holds, in and out
     yield "20,000 cases", GOOD * 20000, LINE * 20000
-    yield "2,000 cases with words", WORDS * 2000, (matched(1, (1, 2, 3)) + "\n") * 2000
+    yield "2,000 cases with words", WORDS * 2000, WORDS_LINE * 2000

@@ -2,6 +2,7 @@
 ghost use Prim.Native.Nat.{_≤_};
 ghost use lib.ListN.{length};
 ghost use Rattle.io.specs.Counts.{Counts};
+use crate::Buffer;
 use libc::STDIN_FILENO;
 
 // The bytes of the buffer from at to end are read and not taken yet.
@@ -24,7 +25,7 @@ pub struct Field {
 }
 
 // Fills part with the next bytes.
-pub fn take(space: &mut [u8; 65536], from: Input, part: &mut [u8]) -> Taken
+pub fn take(space: &mut Buffer, from: Input, part: &mut [u8]) -> Taken
     requires { ⌜ from .end ≤ 65536 ⌝ }
     ensures { λ r. ⌜ (r .count ≤ length (now (part .exit))) × (r .input .end ≤ 65536) ⌝ }
 {
@@ -45,7 +46,7 @@ pub fn take(space: &mut [u8; 65536], from: Input, part: &mut [u8]) -> Taken
 }
 
 // Reads on, once, where all is taken. At the end of the input nothing is read ahead then.
-fn read_ahead(space: &mut [u8; 65536], input: Input) -> Input
+fn read_ahead(space: &mut Buffer, input: Input) -> Input
     requires { ⌜ input .end ≤ 65536 ⌝ }
     ensures { λ r. ⌜ r .end ≤ 65536 ⌝ }
 {
@@ -59,14 +60,14 @@ fn read_ahead(space: &mut [u8; 65536], input: Input) -> Input
 }
 
 // One read, of as much as there is.
-fn read_some(space: &mut [u8; 65536]) -> usize
+fn read_some(space: &mut Buffer) -> usize
     ensures { λ r. ⌜ r ≤ 65536 ⌝ }
 {
     io::count(libc::read(STDIN_FILENO, space), space)
 }
 
 // Takes a 4-byte length (high byte first) and that many bytes. A length above what part holds is not a whole field.
-pub fn take_field(space: &mut [u8; 65536], input: Input, part: &mut [u8]) -> Field
+pub fn take_field(space: &mut Buffer, input: Input, part: &mut [u8]) -> Field
     requires { ⌜ input .end ≤ 65536 ⌝ }
     ensures { λ r. ⌜ Counts (r .count) (now (part .exit)) × (r .input .end ≤ 65536) ⌝ }
 {

@@ -4,6 +4,7 @@
 // A case is one letter, then its fields, each a 4-byte length (high byte first) and that many bytes: `V` model; `M` model, packet name,
 // binding words (4 bytes each, high byte first); `S` model, packet name, key name. Each gets one line. A field that is too long, a cut
 // case or another letter prints `broken` and ends.
+ghost use mathlib.Core.Path.{_≡_};
 ghost use Prim.Native.Nat.{_+_, _*_, _≤_, _<_};
 ghost use lib.ListN.{length};
 ghost use Rattle.io.specs.Counts.{Counts};
@@ -16,13 +17,31 @@ use lvs::MatchAnswer;
 use lvs::SignAnswer;
 use lvs::Verdict;
 
+// The longest fields: a model fills a Buffer.
 const NAME_BYTES: usize = 4096;
+
+const WORDS: usize = 1024;
+
+const WORD_BYTES: usize = 4096;
+
+// For what is read ahead, for a model, and for lines that are not written yet.
+type Buffer = [u8; 65536];
 
 // Where input and output stand behind a case, and whether it was a whole one.
 struct Turn {
     is_whole: bool,
     input: Input,
     used: usize,
+}
+
+fn broken(input: Input, used: usize) -> Turn
+    ensures { λ r. ⌜ (r .input .end ≡ input .end) × (r .used ≡ used) ⌝ }
+{
+    Turn {
+        is_whole: false,
+        input,
+        used,
+    }
 }
 
 fn main() {
@@ -32,13 +51,13 @@ fn main() {
     answer_input(&mut space, &mut model, &mut out);
 }
 
-fn answer_input(space: &mut [u8; 65536], model: &mut [u8], out: &mut [u8; 65536]) {
+fn answer_input(space: &mut Buffer, model: &mut [u8], out: &mut Buffer) {
     let used = answer_cases(space, model, out);
     output::flush(out, used);
 }
 
 // Nothing says that the input ends, so the loop counts its turns down, from a number that no run uses up.
-fn answer_cases(space: &mut [u8; 65536], model: &mut [u8], out: &mut [u8; 65536]) -> usize
+fn answer_cases(space: &mut Buffer, model: &mut [u8], out: &mut Buffer) -> usize
     ensures { λ r. ⌜ r ≤ 65536 ⌝ }
 {
     let mut input = Input { at: 0, end: 0 };
@@ -64,10 +83,10 @@ fn answer_cases(space: &mut [u8; 65536], model: &mut [u8], out: &mut [u8; 65536]
 
 fn answer_case(
     letter: u8,
-    space: &mut [u8; 65536],
+    space: &mut Buffer,
     input: Input,
     model: &mut [u8],
-    out: &mut [u8; 65536],
+    out: &mut Buffer,
     used: usize,
 ) -> Turn
     requires { ⌜ (input .end ≤ 65536) × (used ≤ 65536) ⌝ }
@@ -76,11 +95,7 @@ fn answer_case(
     let field = input::take_field(space, input, model);
     let behind = field.input;
     if !field.is_whole {
-        return Turn {
-            is_whole: false,
-            input: behind,
-            used,
-        };
+        return broken(behind, used);
     }
     let n = field.count;
     match letter {
@@ -94,53 +109,37 @@ fn answer_case(
         }
         b'M' => answer_match(space, behind, &model[..n], out, used),
         b'S' => answer_sign(space, behind, &model[..n], out, used),
-        _ => Turn {
-            is_whole: false,
-            input: behind,
-            used,
-        },
+        _ => broken(behind, used),
     }
 }
 
 fn answer_match(
-    space: &mut [u8; 65536],
+    space: &mut Buffer,
     input: Input,
     model: &[u8],
-    out: &mut [u8; 65536],
+    out: &mut Buffer,
     used: usize,
 ) -> Turn
     requires { ⌜ (input .end ≤ 65536) × (used ≤ 65536) ⌝ }
     ensures { λ r. ⌜ (r .input .end ≤ 65536) × (r .used ≤ 65536) ⌝ }
 {
     let mut name = [0u8; NAME_BYTES];
-    let mut bytes = [0u8; 4096];
-    let mut words = [0u32; 1024];
+    let mut bytes = [0u8; WORD_BYTES];
+    let mut words = [0u32; WORDS];
     let first = input::take_field(space, input, &mut name);
     let n = first.count;
     let middle = first.input;
     if !first.is_whole {
-        return Turn {
-            is_whole: false,
-            input: middle,
-            used,
-        };
+        return broken(middle, used);
     }
     let second = input::take_field(space, middle, &mut bytes);
     let count = second.count;
     let behind = second.input;
     if !second.is_whole {
-        return Turn {
-            is_whole: false,
-            input: behind,
-            used,
-        };
+        return broken(behind, used);
     }
     if count % 4 != 0 {
-        return Turn {
-            is_whole: false,
-            input: behind,
-            used,
-        };
+        return broken(behind, used);
     }
     let k = read_words(&bytes[..count], &mut words);
     Turn {
@@ -151,13 +150,7 @@ fn answer_match(
 }
 
 // The call's answer and all words after it.
-fn match_line(
-    model: &[u8],
-    name: &[u8],
-    words: &mut [u32],
-    out: &mut [u8; 65536],
-    used: usize,
-) -> usize
+fn match_line(model: &[u8], name: &[u8], words: &mut [u32], out: &mut Buffer, used: usize) -> usize
     requires { ⌜ used ≤ 65536 ⌝ }
     ensures { λ r. ⌜ r ≤ 65536 ⌝ }
 {
@@ -202,10 +195,10 @@ fn long(b: u8) -> u32
 }
 
 fn answer_sign(
-    space: &mut [u8; 65536],
+    space: &mut Buffer,
     input: Input,
     model: &[u8],
-    out: &mut [u8; 65536],
+    out: &mut Buffer,
     used: usize,
 ) -> Turn
     requires { ⌜ (input .end ≤ 65536) × (used ≤ 65536) ⌝ }
@@ -217,21 +210,13 @@ fn answer_sign(
     let n = first.count;
     let middle = first.input;
     if !first.is_whole {
-        return Turn {
-            is_whole: false,
-            input: middle,
-            used,
-        };
+        return broken(middle, used);
     }
     let second = input::take_field(space, middle, &mut key);
     let m = second.count;
     let behind = second.input;
     if !second.is_whole {
-        return Turn {
-            is_whole: false,
-            input: behind,
-            used,
-        };
+        return broken(behind, used);
     }
     let at = put_sign(out, used, lvs::sign(model, &packet[..n], &key[..m]));
     Turn {
@@ -241,7 +226,7 @@ fn answer_sign(
     }
 }
 
-fn put_verdict(out: &mut [u8; 65536], used: usize, verdict: Verdict) -> usize
+fn put_verdict(out: &mut Buffer, used: usize, verdict: Verdict) -> usize
     requires { ⌜ used ≤ 65536 ⌝ }
     ensures { λ r. ⌜ r ≤ 65536 ⌝ }
 {
@@ -251,7 +236,7 @@ fn put_verdict(out: &mut [u8; 65536], used: usize, verdict: Verdict) -> usize
     }
 }
 
-fn put_match(out: &mut [u8; 65536], used: usize, answer: MatchAnswer) -> usize
+fn put_match(out: &mut Buffer, used: usize, answer: MatchAnswer) -> usize
     requires { ⌜ used ≤ 65536 ⌝ }
     ensures { λ r. ⌜ r ≤ 65536 ⌝ }
 {
@@ -268,7 +253,7 @@ fn put_match(out: &mut [u8; 65536], used: usize, answer: MatchAnswer) -> usize
     }
 }
 
-fn put_sign(out: &mut [u8; 65536], used: usize, answer: SignAnswer) -> usize
+fn put_sign(out: &mut Buffer, used: usize, answer: SignAnswer) -> usize
     requires { ⌜ used ≤ 65536 ⌝ }
     ensures { λ r. ⌜ r ≤ 65536 ⌝ }
 {
@@ -285,7 +270,7 @@ fn put_sign(out: &mut [u8; 65536], used: usize, answer: SignAnswer) -> usize
     }
 }
 
-fn put_accepted(out: &mut [u8; 65536], used: usize, nodes: u32) -> usize
+fn put_accepted(out: &mut Buffer, used: usize, nodes: u32) -> usize
     requires { ⌜ used ≤ 65536 ⌝ }
     ensures { λ r. ⌜ r ≤ 65536 ⌝ }
 {
@@ -293,7 +278,7 @@ fn put_accepted(out: &mut [u8; 65536], used: usize, nodes: u32) -> usize
     output::put_number(out, at, nodes as u64)
 }
 
-fn put_refused(out: &mut [u8; 65536], used: usize, number: u32, node: u32) -> usize
+fn put_refused(out: &mut Buffer, used: usize, number: u32, node: u32) -> usize
     requires { ⌜ used ≤ 65536 ⌝ }
     ensures { λ r. ⌜ r ≤ 65536 ⌝ }
 {

@@ -1,10 +1,11 @@
 // Standard output, gathered in a buffer that is lent; `used` of its bytes are not written yet.
 ghost use Prim.Native.Nat.{_≤_, _<_};
 ghost use lib.ListN.{length};
+use crate::Buffer;
 use libc::STDOUT_FILENO;
 
 // Puts text behind what is there, and answers how much is used then.
-pub fn put(out: &mut [u8; 65536], used: usize, text: &[u8]) -> usize
+pub fn put(out: &mut Buffer, used: usize, text: &[u8]) -> usize
     requires { ⌜ used ≤ 65536 ⌝ }
     ensures { λ r. ⌜ r ≤ 65536 ⌝ }
 {
@@ -30,7 +31,7 @@ fn room(out: &[u8], used: usize) -> usize
     0
 }
 
-pub fn put_number(out: &mut [u8; 65536], used: usize, n: u64) -> usize
+pub fn put_number(out: &mut Buffer, used: usize, n: u64) -> usize
     requires { ⌜ used ≤ 65536 ⌝ }
     ensures { λ r. ⌜ r ≤ 65536 ⌝ }
 {
@@ -40,7 +41,7 @@ pub fn put_number(out: &mut [u8; 65536], used: usize, n: u64) -> usize
 }
 
 // A text, a number, a blank and a number.
-pub fn put_pair(out: &mut [u8; 65536], used: usize, text: &[u8], a: u64, b: u64) -> usize
+pub fn put_pair(out: &mut Buffer, used: usize, text: &[u8], a: u64, b: u64) -> usize
     requires { ⌜ used ≤ 65536 ⌝ }
     ensures { λ r. ⌜ r ≤ 65536 ⌝ }
 {
@@ -51,7 +52,7 @@ pub fn put_pair(out: &mut [u8; 65536], used: usize, text: &[u8], a: u64, b: u64)
 }
 
 // Each word with a blank before it.
-pub fn put_words(out: &mut [u8; 65536], used: usize, words: &[u32]) -> usize
+pub fn put_words(out: &mut Buffer, used: usize, words: &[u32]) -> usize
     requires { ⌜ used ≤ 65536 ⌝ }
     ensures { λ r. ⌜ r ≤ 65536 ⌝ }
 {
@@ -64,7 +65,7 @@ pub fn put_words(out: &mut [u8; 65536], used: usize, words: &[u32]) -> usize
     at
 }
 
-fn put_word(out: &mut [u8; 65536], used: usize, word: u32) -> usize
+fn put_word(out: &mut Buffer, used: usize, word: u32) -> usize
     requires { ⌜ used ≤ 65536 ⌝ }
     ensures { λ r. ⌜ r ≤ 65536 ⌝ }
 {
