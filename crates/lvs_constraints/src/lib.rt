@@ -1,5 +1,7 @@
 // Bindings, and the Constraints of a PatternEdge (document 01, "Names and the walk"), for any bytes.
 //
+// A layer below the public calls: `requires` asks for two words a Tag, which the walk's own array has.
+//
 // `packet` and `key` are the two names, `slots` the bindings as they stand, and `c` the bytes from the component on that is to pass.
 ghost use mathlib.Core.Path.{_≡_};
 ghost use Prim.Native.Nat.{_+_, _≤_};

@@ -1,4 +1,6 @@
 // Names and their components (document 01, "Names and the walk"), read at their places and never copied.
+//
+// A layer below the public calls: any bytes may be a name, and `requires` asks only that the refusal numbers are ones of document 01.
 ghost use mathlib.Core.Path.{_≡_};
 ghost use Prim.Native.Nat.{_+_, _≤_};
 ghost use lib.Dec.{eqb};

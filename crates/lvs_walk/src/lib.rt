@@ -1,5 +1,8 @@
 // The walk of names through a model (document 01, "Names and the walk"): depth first, one edge and one component at a step.
 //
+// A layer below the public calls, which refuse what is too long before they come here: that, and word arrays of the right length, all 0 at
+// the start of a match, is what `requires` asks. The bytes are any.
+//
 // `places` has the place of each Node, `packet` and `key` are the two names, `slots` the bindings as they stand.
 ghost use mathlib.Core.Path.{_≡_};
 ghost use mathlib.Core.Bool.{true, false, cond};

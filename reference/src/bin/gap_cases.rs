@@ -2,7 +2,7 @@
 //!
 //! For each generated case whose model is read: the case itself, the same with
 //! its bare model, with an optional element in each gap, with a critical one in
-//! each gap, and with another version. Cases go to standard output, and the
+//! each gap (in a model with many, evenly spread), and with another version. Cases go to standard output, and the
 //! lines that they must get to the file LINES.
 //! Arguments: seed, number of generated cases, LINES.
 
@@ -17,7 +17,7 @@ use lvs_reference::gen::{self, critical_kind, optional_kind, Random};
 use lvs_reference::{bare, gaps, insert_element};
 
 const MAX_MODEL: usize = 32_768;
-/// Models with more gaps get every so manieth of them.
+/// In models with more gaps every second, third .. of them is taken.
 const MAX_GAPS: usize = 64;
 
 fn main() -> ExitCode {
