@@ -138,3 +138,9 @@ read-seen s at = go (number (drop at s)) refl
 
 pub numbered : (s : List ℕ) (at : ℕ) {r a : NumberRead} → r ≡ numberAt s at → r ≡ a → NumberSeen s at a
 numbered s at {r} {a} e f = subst (NumberSeen s at) (sym e ∙ f) (read-seen s at)
+
+pub byte : (s : List ℕ) (at : ℕ) → at < length s → getD s at 0 < 253 → Numbered s at (getD s at 0) (at + 1)
+byte s at h lt = numbered s at (sym (one-byte s at h lt)) refl
+
+pub no-byte : (s : List ℕ) (at : ℕ) → length s ≤ at → number (drop at s) ≡ unreadable
+no-byte s at h = numbered s at (sym (none-left s at h)) refl

@@ -39,8 +39,45 @@ enum NumberRead {
 }
 
 impl Place {
-    // The element at this place. Only its header is looked at.
+    // The element at this place. Only its header is looked at: here, where type and length take one byte each, as nearly all do.
     pub fn element(self, s: &[u8]) -> Read
+        ensures { λ r. ⌜ r ≡ readAt (now (s .entry)) (self .at) ⌝ }
+    {
+        let at = self.at;
+        if s.len() <= at {
+            return Read::End;
+        }
+        let typ = s[at] as u32;
+        if 252 < typ {
+            return self.wide_element(s);
+        }
+        if typ < 1 {
+            return Read::Malformed;
+        }
+        let middle = at + 1;
+        if s.len() <= middle {
+            return Read::Malformed;
+        }
+        let len = s[middle] as usize;
+        if 252 < len {
+            return self.wide_element(s);
+        }
+        let start = middle + 1;
+        if s.len() - start < len {
+            return Read::Malformed;
+        }
+        let end = start + len;
+        let next = Place { at: end };
+        Read::Found {
+            typ,
+            start,
+            end,
+            next,
+        }
+    }
+
+    // The same with numbers of any width. Apart, so that `element` is small enough to be inlined.
+    fn wide_element(self, s: &[u8]) -> Read
         ensures { λ r. ⌜ r ≡ readAt (now (s .entry)) (self .at) ⌝ }
     {
         let at = self.at;

@@ -1,92 +1,84 @@
 -- `tlv::Place::element` meets its contract: the tests that led to each return say which case of `readAt` holds. Assumes nothing.
 use borrow.Author.Needs.{needs}
 use native.Mathlib.Omega.{arith}
-use mathlib.Core.Path.{sym, _∙_}
-use Rattle.tlv.proofs.Numbers.{numbered}
-use Rattle.tlv.proofs.Elements.{at-end, no-type, malformed-type, no-length, too-long, found, type-low, type-high, type-ok}
+use mathlib.Core.Path.{sym}
+use Prim.Native.Nat.{_+_}
+use Rattle.tlv.proofs.Numbers.{byte, no-byte}
+use Rattle.tlv.proofs.Elements.{at-end, malformed-type, no-length, too-long, found, type-low, type-ok}
 use Rattle.tlv.proofs.Place.element.Statement.{statement}
 use Rattle.tlv.proofs.Place.element.Tie as tie
 
 returns : tie.Need-returns
 returns c = sym (at-end _ _ (c .if1 .taken))
 
-number-requires : tie.Need-number-requires
-number-requires c κs = search needs
+shared-slice-read-typ : tie.Need-shared-slice-read-typ
+shared-slice-read-typ c = search needs
 
-enum-known-t : tie.Need-enum-known-t
-enum-known-t c = search needs
+cast-typ : tie.Need-cast-typ
+cast-typ c = omega (arith, c .shared-slice-known2 .given (c .before .before .before .args .self .at))
 
-enum-told : tie.Need-enum-told
-enum-told c = search needs
+wide-element-requires : tie.Need-wide-element-requires
+wide-element-requires c κs = search needs
 
 returns-2 : tie.Need-returns-2
-returns-2 c = sym (no-type _ _ (omega arith) (numbered _ _ (c .before .before .number .ensures) (c .enum-told .given .1)))
+returns-2 c = search needs
 
 returns-3 : tie.Need-returns-3
-returns-3 c =
-    let k = c .before .before in
-    sym (malformed-type _ _ (omega arith) (numbered _ _ (k .before .before .number .ensures) (k .t .given .1)) (type-low (c .if2 .taken)))
+returns-3 c = sym (malformed-type _ _ (omega arith) (byte _ _ (omega arith) (omega arith)) (type-low (c .if3 .taken)))
+
+add-middle : tie.Need-add-middle
+add-middle c = search needs
 
 returns-4 : tie.Need-returns-4
-returns-4 c =
-    let k = c .before .before .before in
-    sym (malformed-type _ _ (omega arith) (numbered _ _ (k .before .before .number .ensures) (k .t .given .1)) (type-high (c .before .if2 .left) (c .if3 .taken)))
+returns-4 c = sym (no-length _ _ (omega arith) (byte _ _ (omega arith) (omega arith)) (type-ok (omega arith) (omega arith)) (no-byte _ (c .before .before .before .before .before .before .args .self .at + 1) (omega arith)))
 
-number-requires-2 : tie.Need-number-requires-2
-number-requires-2 c κs = search needs
+shared-slice-read-len : tie.Need-shared-slice-read-len
+shared-slice-read-len c = search needs
 
-enum-known-len : tie.Need-enum-known-len
-enum-known-len c = search needs
+cast-len : tie.Need-cast-len
+cast-len c = omega (arith, c .shared-slice-known3 .given (c .before .before .before .before .before .before .before .args .self .at + 1))
 
-enum-told-2 : tie.Need-enum-told-2
-enum-told-2 c = search needs
+wide-element-requires-2 : tie.Need-wide-element-requires-2
+wide-element-requires-2 c κs = search needs
 
 returns-5 : tie.Need-returns-5
-returns-5 c =
-    let m = c .before .before in
-    let k = m .before .before .before .before in
-    sym (no-length _ _ (omega arith) (numbered _ _ (k .before .before .number .ensures) (k .t .given .1)) (type-ok (m .before .before .if2 .left) (m .before .if3 .left)) (numbered _ _ (m .number2 .ensures) (c .enum-told2 .given .1)))
+returns-5 c = search needs
 
-sub-left : tie.Need-sub-left
-sub-left c = numbered _ _ (c .before .before .before .number2 .ensures) (c .before .len .given .1) .within
+add-start : tie.Need-add-start
+add-start c = search needs
+
+sub-if6 : tie.Need-sub-if6
+sub-if6 c = search needs
 
 returns-6 : tie.Need-returns-6
 returns-6 c =
-    let l = c .before .before in
-    let m = l .before .before in
-    let k = m .before .before .before .before in
-    sym (too-long _ _ (omega arith) (numbered _ _ (k .before .before .number .ensures) (k .t .given .1)) (type-ok (m .before .before .if2 .left) (m .before .if3 .left)) (numbered _ _ (m .number2 .ensures) (l .len .given .1)) (c .if4 .taken))
-
-cast-typ : tie.Need-cast-typ
-cast-typ c = omega arith
+    sym (too-long _ _ (omega arith) (byte _ _ (omega arith) (omega arith)) (type-ok (omega arith) (omega arith)) (byte _ _ (omega arith) (omega arith)) (c .if6 .taken))
 
 add-end : tie.Need-add-end
 add-end c = search needs
 
 returns-7 : tie.Need-returns-7
 returns-7 c =
-    let l = c .before .before in
-    let m = l .before .before in
-    let k = m .before .before .before .before in
-    sym (found _ _ (omega arith) (numbered _ _ (k .before .before .number .ensures) (k .t .given .1)) (type-ok (m .before .before .if2 .left) (m .before .if3 .left)) (numbered _ _ (m .number2 .ensures) (l .len .given .1)) (c .if4 .left))
+    sym (found _ _ (omega arith) (byte _ _ (omega arith) (omega arith)) (type-ok (omega arith) (omega arith)) (byte _ _ (omega arith) (omega arith)) (c .if6 .left))
 
 pub element-spec : {M : Type 1} → statement M
 element-spec =
     tie.close
     (tie.spec
     returns
-    number-requires
-    enum-known-t
-    enum-told
+    shared-slice-read-typ
+    cast-typ
+    wide-element-requires
     returns-2
     returns-3
+    add-middle
     returns-4
-    number-requires-2
-    enum-known-len
-    enum-told-2
+    shared-slice-read-len
+    cast-len
+    wide-element-requires-2
     returns-5
-    sub-left
+    add-start
+    sub-if6
     returns-6
-    cast-typ
     add-end
     returns-7)
