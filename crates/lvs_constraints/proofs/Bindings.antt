@@ -12,10 +12,10 @@ use lib.Seq.{take-all}
 use Rattle.tlv.specs.Element.{Element}
 use Rattle.lvs_spec.specs.Lists.{bind, is, all}
 use Rattle.lvs_spec.specs.Limits.{maxTag, bindingWords}
-use Rattle.lvs_spec.specs.Model.{Argument, PatternEdge, componentOf}
+use Rattle.lvs_spec.specs.Model.{Argument, PatternEdge, componentOf, patternEdgeOf}
 use Rattle.lvs_spec.specs.Names.{Component, same}
 use Rattle.lvs_spec.specs.Walk.{Bindings, bound, boundTo, argumentIn, constraintHolds, crosses}
-use Rattle.lvs_constraints.specs.Bindings.{textFrom, placeIn, binding, bindingsOf, SlotOf}
+use Rattle.lvs_constraints.specs.Bindings.{textFrom, placeIn, binding, bindingsOf, SlotOf, EdgeWith}
 use Rattle.lvs_constraints.specs.declared.Slot.{Slot}
 
 -- ---- the text
@@ -127,22 +127,26 @@ bound-argument s tag c = sym (content-test (λ a. same a c) (bound s tag))
 
 -- ---- a PatternEdge
 
-module _ {words : List ℕ} {s : Slot} (e : PatternEdge) (S : SlotOf words (e .tag) s) (packet key : List ℕ) (c : Element) where
-  -- every Constraint holds
+module _ {words b : List ℕ} {s : Slot} {e : PatternEdge} (E : EdgeWith e b words s) (packet key : List ℕ) (c : Element) where
+  -- every Constraint holds, as the code asks it
   abbrev held : Bool
-  held = all (constraintHolds (bindingsOf packet key words) c) (e .constraints)
+  held = all (constraintHolds (bindingsOf packet key words) c) (patternEdgeOf b .constraints)
 
-  pub passes-unbound : s .size ≡ 0 → crosses (bindingsOf packet key words) c e ≡ held
+  held-is : all (constraintHolds (bindingsOf packet key words) c) (e .constraints) ≡ held
+  unfolding patternEdgeOf
+  held-is = rw (E .constraints)
+
+  pub passes-unbound : s .size ≡ 0 → held ≡ crosses (bindingsOf packet key words) c e
   unfolding crosses
-  passes-unbound z = rw (unbound S packet key z)
+  passes-unbound z = sym (rw (unbound (E .slot) packet key z) held-is)
 
   module _ (n : s .size ≡ 0 → ⊥) where
-    tested : {t : Bool} → same (componentOf (textFrom packet key (s .start))) c ≡ t → crosses (bindingsOf packet key words) c e ≡ (t && held)
+    tested : {t : Bool} → t ≡ same (componentOf (textFrom packet key (s .start))) c → crosses (bindingsOf packet key words) c e ≡ (t && held)
     unfolding crosses boundTo
-    tested h = rw (is-bound S packet key n, h)
+    tested h = rw (is-bound (E .slot) packet key n, ← h, held-is)
 
-    pub passes-bound : same (componentOf (textFrom packet key (s .start))) c ≡ true → crosses (bindingsOf packet key words) c e ≡ held
-    passes-bound h = tested h
+    pub passes-bound : {t : Bool} → t ≡ same (componentOf (textFrom packet key (s .start))) c → t ≡ true → held ≡ crosses (bindingsOf packet key words) c e
+    passes-bound h p = sym (tested h ∙ rw p)
 
-    pub passes-other : same (componentOf (textFrom packet key (s .start))) c ≡ false → crosses (bindingsOf packet key words) c e ≡ false
-    passes-other h = tested h
+    pub passes-other : {t : Bool} → t ≡ same (componentOf (textFrom packet key (s .start))) c → t ≡ false → false ≡ crosses (bindingsOf packet key words) c e
+    passes-other h p = sym (tested h ∙ rw p)

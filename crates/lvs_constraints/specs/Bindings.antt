@@ -3,11 +3,12 @@
 use Prim.Native.Nat.{ℕ, zero, suc, _-_}
 use mathlib.Core.Path.{_≡_}
 use mathlib.Core.Bool.{cond}
-use mathlib.Core.List.{List, [], _∷_}
+use mathlib.Core.List.{List, [], _∷_, map}
 use mathlib.Core.Option.{Option, none, some}
 use lib.Dec.{eqb, ltb}
 use lib.ListN.{length, drop}
-use Rattle.lvs_spec.specs.Model.{componentOf}
+use Rattle.lvs_spec.specs.Types as type
+use Rattle.lvs_spec.specs.Model.{PatternEdge, insides, componentOf, constraintOf}
 use Rattle.lvs_spec.specs.Names.{Component}
 use Rattle.lvs_spec.specs.Walk.{Bindings, bound}
 use Rattle.lvs_constraints.specs.declared.Slot.{Slot}
@@ -32,3 +33,8 @@ bindingsOf packet key (p ∷ n ∷ words) = binding packet key p n ∷ bindingsO
 -- the two words of a Tag
 pub record SlotOf (words : List ℕ) (tag : ℕ) (s : Slot) : Type 0 where
   pub is : (packet key : List ℕ) → binding packet key (s .start) (s .size) ≡ bound (bindingsOf packet key words) tag
+
+-- an edge with the Constraints that b holds, and with the Tag whose two words these are
+pub record EdgeWith (e : PatternEdge) (b words : List ℕ) (s : Slot) : Type 0 where
+  pub constraints : e .constraints ≡ map constraintOf (insides type.Constraint b)
+  pub slot : SlotOf words (e .tag) s

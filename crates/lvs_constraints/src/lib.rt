@@ -1,18 +1,20 @@
 // Bindings, and the Constraints of a PatternEdge (document 01, "Names and the walk"), for any bytes.
 //
-// A layer below the public calls: `requires` asks for two words a Tag, which the walk's own array has.
+// A layer below the public calls: `requires` asks for two words a Tag, which the walk's own array has, and
+// for a component that is cut out.
 //
-// `packet` and `key` are the two names, `slots` the bindings as they stand, and `c` the bytes from the component on that is to pass.
+// `packet` and `key` are the two names, `slots` the bindings as they stand, and `c` the component that is to pass.
 ghost use mathlib.Core.Path.{_≡_};
 ghost use Prim.Native.Nat.{_+_, _≤_};
 ghost use lib.Dec.{eqb};
 ghost use lib.ListN.{length};
 ghost use Rattle.lvs_spec.specs.Lists.{any, all, is};
 ghost use Rattle.lvs_spec.specs.Limits.{bindingWords};
-ghost use Rattle.lvs_spec.specs.Model.{componentOf, argumentOf, callOf, termFrom, optionOf, constraintOf, patternEdgeOf};
+ghost use Rattle.lvs_names.specs.Contents.{Alone};
+ghost use Rattle.lvs_spec.specs.Model.{PatternEdge, componentOf, argumentOf, callOf, termFrom, optionOf, constraintOf, patternEdgeOf};
 ghost use Rattle.lvs_spec.specs.Names.{same};
 ghost use Rattle.lvs_spec.specs.Walk.{boundTo, argumentIn, callHolds, termHolds, optionHolds, constraintHolds, crosses};
-ghost use Rattle.lvs_constraints.specs.Bindings.{textFrom, bindingsOf, SlotOf};
+ghost use Rattle.lvs_constraints.specs.Bindings.{textFrom, bindingsOf, SlotOf, EdgeWith};
 ghost use Rattle.lvs_constraints.specs.Arguments.{ArgumentAt};
 use lvs_fields::Function;
 use lvs_spec::types::CONSTRAINT;
@@ -73,13 +75,14 @@ pub fn slot_of(slots: &[u32], tag: u64) -> Slot
 // Whether a Tag is bound to an equal component.
 fn bound_same<'a>(packet: &'a [u8], key: &'a [u8], slots: &[u32], tag: u64, c: &[u8]) -> bool
     requires { ⌜ length (now slots) ≡ bindingWords ⌝ }
+    requires { ⌜ Alone (now c) ⌝ }
     ensures { λ r. ⌜ r ≡ boundTo (bindingsOf (now (packet .entry)) (now (key .entry)) (now (slots .entry))) tag (componentOf (now (c .entry))) ⌝ }
 {
     let slot = slot_of(slots, tag);
     if slot.size == 0 {
         return false;
     }
-    lvs_names::same_component(text_from(packet, key, slot.start as usize), c)
+    lvs_names::begins_with(text_from(packet, key, slot.start as usize), c)
 }
 
 // Whether a Tag is bound to a component of the same type.
@@ -129,11 +132,12 @@ fn argument_of(s: &[u8]) -> ArgumentRead
 // Whether a call's first argument equals the component.
 fn argument_same<'a>(s: &[u8], packet: &'a [u8], key: &'a [u8], slots: &[u32], c: &[u8]) -> bool
     requires { ⌜ length (now slots) ≡ bindingWords ⌝ }
+    requires { ⌜ Alone (now c) ⌝ }
     ensures { λ r. ⌜ r ≡ is (λ a. same a (componentOf (now (c .entry))))
         (argumentIn (bindingsOf (now (packet .entry)) (now (key .entry)) (now (slots .entry))) (argumentOf (now (s .entry)))) ⌝ }
 {
     match argument_of(s) {
-        ArgumentRead::Value(start, end) => lvs_names::same_component(&s[start..end], c),
+        ArgumentRead::Value(start, end) => lvs_names::begins_with(&s[start..end], c),
         ArgumentRead::Tag(tag) => bound_same(packet, key, slots, tag, c),
     }
 }
@@ -159,6 +163,7 @@ fn argument_same_type<'a>(
 // Whether a UserFnCall holds.
 fn call_holds<'a>(s: &[u8], packet: &'a [u8], key: &'a [u8], slots: &[u32], c: &[u8]) -> bool
     requires { ⌜ length (now slots) ≡ bindingWords ⌝ }
+    requires { ⌜ Alone (now c) ⌝ }
     ensures { λ r. ⌜ r ≡ callHolds (bindingsOf (now (packet .entry)) (now (key .entry)) (now (slots .entry))) (componentOf (now (c .entry))) (callOf (now (s .entry))) ⌝ }
 {
     let name = lvs_fields::inside_of(s, FN_ID);
@@ -186,11 +191,12 @@ fn term_holds<'a>(
     c: &[u8],
 ) -> bool
     requires { ⌜ length (now slots) ≡ bindingWords ⌝ }
+    requires { ⌜ Alone (now c) ⌝ }
     ensures { λ r. ⌜ r ≡ any (termHolds (bindingsOf (now (packet .entry)) (now (key .entry)) (now (slots .entry))) (componentOf (now (c .entry))))
         (termFrom (record { type = typ; inside = now (s .entry) })) ⌝ }
 {
     if typ == VALUE {
-        return lvs_names::same_component(s, c);
+        return lvs_names::begins_with(s, c);
     }
     if typ == TAG {
         return bound_same(packet, key, slots, lvs_fields::number_of(s), c);
@@ -204,6 +210,7 @@ fn term_holds<'a>(
 // Whether a ConstraintOption holds.
 fn option_holds<'a>(s: &[u8], packet: &'a [u8], key: &'a [u8], slots: &[u32], c: &[u8]) -> bool
     requires { ⌜ length (now slots) ≡ bindingWords ⌝ }
+    requires { ⌜ Alone (now c) ⌝ }
     ensures { λ r. ⌜ r ≡ optionHolds (bindingsOf (now (packet .entry)) (now (key .entry)) (now (slots .entry))) (componentOf (now (c .entry))) (optionOf (now (s .entry))) ⌝ }
 {
     let mut place = Place { at: 0 };
@@ -233,6 +240,7 @@ fn option_holds<'a>(s: &[u8], packet: &'a [u8], key: &'a [u8], slots: &[u32], c:
 // Whether a Constraint holds: one of its options does.
 fn constraint_holds<'a>(s: &[u8], packet: &'a [u8], key: &'a [u8], slots: &[u32], c: &[u8]) -> bool
     requires { ⌜ length (now slots) ≡ bindingWords ⌝ }
+    requires { ⌜ Alone (now c) ⌝ }
     ensures { λ r. ⌜ r ≡ constraintHolds (bindingsOf (now (packet .entry)) (now (key .entry)) (now (slots .entry))) (componentOf (now (c .entry))) (constraintOf (now (s .entry))) ⌝ }
 {
     let mut place = Place { at: 0 };
@@ -264,6 +272,7 @@ fn constraint_holds<'a>(s: &[u8], packet: &'a [u8], key: &'a [u8], slots: &[u32]
 // Whether every Constraint of a PatternEdge holds.
 fn constraints_hold<'a>(s: &[u8], packet: &'a [u8], key: &'a [u8], slots: &[u32], c: &[u8]) -> bool
     requires { ⌜ length (now slots) ≡ bindingWords ⌝ }
+    requires { ⌜ Alone (now c) ⌝ }
     ensures { λ r. ⌜ r ≡ all (constraintHolds (bindingsOf (now (packet .entry)) (now (key .entry)) (now (slots .entry))) (componentOf (now (c .entry))))
         (patternEdgeOf (now (s .entry)) .constraints) ⌝ }
 {
@@ -293,7 +302,8 @@ fn constraints_hold<'a>(s: &[u8], packet: &'a [u8], key: &'a [u8], slots: &[u32]
     }
 }
 
-// Whether a PatternEdge lets the component pass: its Tag is unbound or bound to an equal one, and every Constraint holds. `slot` is its Tag's.
+// Whether a PatternEdge lets the component `c` pass: its Tag, which `slot` is of, is unbound or bound to an equal one, and every Constraint
+// holds; `s` is the edge, or the part of it where its Constraints are.
 pub fn passes<'a>(
     s: &[u8],
     slot: Slot,
@@ -303,13 +313,14 @@ pub fn passes<'a>(
     c: &[u8],
 ) -> bool
     requires { ⌜ length (now slots) ≡ bindingWords ⌝ }
-    requires { ⌜ SlotOf (now slots) (patternEdgeOf (now s) .tag) slot ⌝ }
-    ensures { λ r. ⌜ r ≡ crosses (bindingsOf (now (packet .entry)) (now (key .entry)) (now (slots .entry))) (componentOf (now (c .entry))) (patternEdgeOf (now (s .entry))) ⌝ }
+    requires { ⌜ Alone (now c) ⌝ }
+    ensures { λ r. ⌜ ((e : PatternEdge) → EdgeWith e (now (s .entry)) (now (slots .entry)) slot
+        → r ≡ crosses (bindingsOf (now (packet .entry)) (now (key .entry)) (now (slots .entry))) (componentOf (now (c .entry))) e) ⌝ }
 {
     if slot.size == 0 {
         return constraints_hold(s, packet, key, slots, c);
     }
-    if !lvs_names::same_component(text_from(packet, key, slot.start as usize), c) {
+    if !lvs_names::begins_with(text_from(packet, key, slot.start as usize), c) {
         return false;
     }
     constraints_hold(s, packet, key, slots, c)

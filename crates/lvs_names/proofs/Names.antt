@@ -9,7 +9,7 @@ use borrow.Author.Tests.{eq-eqb, ne-eqb, le-leb, lt-leb, lt-ltb, le-ltb, eqb-tru
 use lib.Dec.{eqb, leb, ltb}
 use lib.ListN.{length, take, drop, length-drop}
 use lib.Seq.{length-take-le, take-all}
-use Rattle.tlv.specs.Bytes.{Bytes, sameBytes}
+use Rattle.tlv.specs.Bytes.{Bytes}
 use Rattle.tlv.specs.Element.{Element, First, end, malformed, first, element, Cuts, done, broken, next, cuts, elementBytes}
 use Rattle.tlv.specs.declared.Place.{Place}
 use Rattle.tlv.proofs.Cuts.{Step, element-whole}
@@ -19,13 +19,14 @@ use Rattle.lvs_spec.specs.Limits.{maxComponentType, maxComponents, maxNameBytes
 use Rattle.lvs_spec.specs.Types as type
 use Rattle.lvs_spec.specs.Leaves.{isComponent}
 use Rattle.lvs_spec.specs.Model.{componentFrom, componentOf}
-use Rattle.lvs_spec.specs.Names.{Component, same, componentsAt, nameFrom, nameOf, NameReading, badName, goodName, rowReading, nameReading}
+use Rattle.lvs_spec.specs.Names.{Component, componentsAt, nameFrom, nameOf, NameReading, badName, goodName, rowReading, nameReading}
 use Rattle.lvs_names.specs.Rows.{rowAt, rowFrom}
 use Rattle.lvs_names.specs.Reading.{headerFrom, headerOf, countedFrom, countOf}
 use Rattle.lvs_names.specs.Contents.{ContentOf, RowStep}
 use Rattle.lvs_names.specs.declared.Content.{Content}
 use Rattle.lvs_names.specs.declared.Counted.{Counted}
 use Rattle.lvs_names.specs.declared.Counted.the-variants.{Components, Malformed}
+use Rattle.lvs_names.proofs.Begins.{cut-alone, cut-content}
 
 -- ---- the header
 
@@ -113,17 +114,6 @@ unfolding componentOf componentFrom
 content-found f = record { order = f .order; within = f .within; is = rw (f .first-is) }
 
 module _ {a b : List ℕ} {x y : Content} (X : ContentOf a x) (Y : ContentOf b y) where
-  pub same-is : same (componentOf a) (componentOf b) ≡ (eqb (x .typ) (y .typ) && sameBytes (take (x .end - x .start) (drop (x .start) a)) (take (y .end - y .start) (drop (y .start) b)))
-  unfolding same
-  same-is = rw (X .is, Y .is)
-
-  pub types-differ : (x .typ ≡ y .typ → ⊥) → same (componentOf a) (componentOf b) ≡ false
-  types-differ n = same-is ∙ rw (ne-eqb (x .typ) (y .typ) n)
-
-  pub types-agree : x .typ ≡ y .typ
-      → same (componentOf a) (componentOf b) ≡ sameBytes (take (x .end - x .start) (drop (x .start) a)) (take (y .end - y .start) (drop (y .start) b))
-  types-agree e = same-is ∙ rw (eq-eqb (x .typ) (y .typ) e)
-
   pub type-is : eqb (componentOf a .type) (componentOf b .type) ≡ eqb (x .typ) (y .typ)
   type-is = rw (X .is, Y .is)
 
@@ -148,6 +138,8 @@ row-next {name} {at} {t} {start} {stop} bytes f =
     record {
       after = omega (arith, f .before, f .order);
       within = f .within;
+      alone = cut-alone bytes f;
+      content = cut-content bytes f;
       is = rw (f .first-is, f .cut-is, f .moved, size, e);
     }
 

@@ -8,7 +8,7 @@ ghost use lib.ListN.{length};
 ghost use Rattle.lvs_spec.specs.Model.{componentOf};
 ghost use Rattle.lvs_spec.specs.Names.{same, nameReading};
 ghost use Rattle.lvs_names.specs.Reading.{nameRead, headerOf, countOf};
-ghost use Rattle.lvs_names.specs.Contents.{ContentOf, ComponentAt};
+ghost use Rattle.lvs_names.specs.Contents.{ContentOf, Alone, ComponentAt};
 use tlv::Place;
 use tlv::Read;
 
@@ -157,23 +157,20 @@ pub fn read_component(s: &[u8]) -> Content
     }
 }
 
-// Whether the components that two slices begin with are equal.
-pub fn same_component(a: &[u8], b: &[u8]) -> bool
-    ensures { λ r. ⌜ r ≡ same (componentOf (now (a .entry))) (componentOf (now (b .entry))) ⌝ }
+// Whether the component that `s` begins with equals `c`, which is one component and no more. Numbers have only one form, so that bytes are
+// compared.
+pub fn begins_with(s: &[u8], c: &[u8]) -> bool
+    requires { ⌜ Alone (now c) ⌝ }
+    ensures { λ r. ⌜ r ≡ same (componentOf (now (s .entry))) (componentOf (now (c .entry))) ⌝ }
 {
-    let x = read_component(a);
-    let y = read_component(b);
-    if x.typ != y.typ {
+    let n = c.len();
+    if s.len() < n {
         return false;
     }
-    let p = x.start;
-    let q = x.end;
-    let i = y.start;
-    let j = y.end;
-    tlv::same_bytes(&a[p..q], &b[i..j])
+    tlv::same_bytes(&s[..n], c)
 }
 
-// Whether they have the same type.
+// Whether the components that two slices begin with have the same type.
 pub fn same_type(a: &[u8], b: &[u8]) -> bool
     ensures { λ r. ⌜ r ≡ eqb (componentOf (now (a .entry)) .type) (componentOf (now (b .entry)) .type) ⌝ }
 {

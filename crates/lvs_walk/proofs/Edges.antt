@@ -55,16 +55,17 @@ module _ {packet key slots : List ℕ} {d i : ℕ} {u : Undo} (low : i < 255) (S
 
 -- ---- a ValueEdge
 
-module _ (s : Bindings) (packet key : List ℕ) (p n : ℕ) (b : List ℕ) {v text : List ℕ} (v-is : v ≡ theInside type.Value b) (text-is : text ≡ textFrom packet key p) where
-  value-is : {t : Bool} → same (componentOf v) (componentOf text) ≡ t → crossing false s (componentAt packet key p n) b ≡ when t (theInteger type.NodeId b, s)
+module _ (s : Bindings) (packet key : List ℕ) (p n : ℕ) (b : List ℕ) {v : List ℕ} (v-is : v ≡ theInside type.Value b) {x : Element} (x-is : componentOf (textFrom packet key p) ≡ x) {t : Bool}
+    (h : t ≡ same (componentOf v) x) where
+  value-is : crossing false s (componentAt packet key p n) b ≡ when t (theInteger type.NodeId b, s)
   unfolding crossing crossValue valueEdgeOf componentAt
-  value-is h = rw (← v-is, ← text-is, h)
+  value-is = rw (← v-is, x-is, ← h)
 
-  pub value-shut : same (componentOf v) (componentOf text) ≡ false → crossing false s (componentAt packet key p n) b ≡ []
-  value-shut h = value-is h
+  pub value-shut : t ≡ false → crossing false s (componentAt packet key p n) b ≡ []
+  value-shut e = value-is ∙ rw e
 
-  pub value-open : {d : ℕ} → same (componentOf v) (componentOf text) ≡ true → d ≡ theInteger type.NodeId b → crossing false s (componentAt packet key p n) b ≡ (d, s) ∷ []
-  value-open h e = value-is h ∙ rw (← e)
+  pub value-open : {d : ℕ} → t ≡ true → d ≡ theInteger type.NodeId b → crossing false s (componentAt packet key p n) b ≡ (d, s) ∷ []
+  value-open e d = value-is ∙ rw (e, ← d)
 
 -- ---- a PatternEdge
 
@@ -75,21 +76,21 @@ length-bindings packet key [] = omega arith
 length-bindings packet key (p ∷ []) = omega arith
 length-bindings packet key (p ∷ n ∷ slots) = omega (arith, length-bindings packet key slots)
 
-module _ (packet key slots : List ℕ) (p n : ℕ) (b : List ℕ) {text : List ℕ} (text-is : text ≡ textFrom packet key p) where
+module _ (packet key slots : List ℕ) (p n : ℕ) (b : List ℕ) {x : Element} (x-is : componentOf (textFrom packet key p) ≡ x) where
   abbrev β : Bindings
   β = bindingsOf packet key slots
 
   abbrev c : Component
   c = componentAt packet key p n
 
-  pattern-is : {t : Bool} → t ≡ crosses β (componentOf text) (patternEdgeOf b) → crossing true β c b ≡ when t (patternEdgeOf b .destination, bindTag β (patternEdgeOf b .tag) c)
+  pattern-is : {t : Bool} → t ≡ crosses β x (patternEdgeOf b) → crossing true β c b ≡ when t (patternEdgeOf b .destination, bindTag β (patternEdgeOf b .tag) c)
   unfolding crossing crossPattern componentAt
-  pattern-is h = rw (h, text-is)
+  pattern-is h = rw (x-is, h)
 
-  pub pattern-shut : {t : Bool} → t ≡ crosses β (componentOf text) (patternEdgeOf b) → t ≡ false → crossing true β c b ≡ []
+  pub pattern-shut : {t : Bool} → t ≡ crosses β x (patternEdgeOf b) → t ≡ false → crossing true β c b ≡ []
   pattern-shut h e = pattern-is h ∙ rw e
 
-  module _ {t : Bool} (h : t ≡ crosses β (componentOf text) (patternEdgeOf b)) (open-is : t ≡ true) {d tag : ℕ} (d-is : d ≡ theInteger type.NodeId b)
+  module _ {t : Bool} (h : t ≡ crosses β x (patternEdgeOf b)) (open-is : t ≡ true) {d tag : ℕ} (d-is : d ≡ theInteger type.NodeId b)
       (tag-is : tag ≡ theInteger type.Tag b) where
     pattern-open : crossing true β c b ≡ (d, bindTag β tag c) ∷ []
     unfolding patternEdgeOf

@@ -6,7 +6,8 @@ use mathlib.Core.List.{List, [], _∷_, _++_, map, append-assoc, append-nil}
 use mathlib.Core.Option.{Option, none, some}
 use native.Mathlib.Omega.{arith}
 use borrow.Author.Tests.{lt-ltb, le-ltb}
-use lib.ListN.{length, take, drop}
+use lib.ListN.{length, take, drop, length-drop}
+use lib.Seq.{length-take-le}
 use Rattle.lvs_spec.specs.Lists.{each, first}
 use Rattle.lvs_spec.specs.Types as type
 use Rattle.lvs_spec.specs.Model.{Model, Node, insides, valueEdgeOf, patternEdgeOf, nodeOf, modelOf}
@@ -18,11 +19,11 @@ use Rattle.lvs_names.specs.Contents.{RowStep, ComponentAt}
 use Rattle.lvs_names.specs.declared.ComponentRead.{ComponentRead}
 use Rattle.lvs_names.specs.declared.ComponentRead.the-variants.{Component as AComponent, End as Ended}
 use Rattle.lvs_constraints.specs.Bindings.{textFrom, placeIn, bindingsOf}
-use Rattle.lvs_walk.specs.Nodes.{nodeInside, EdgeAt, EdgeFrom}
+use Rattle.lvs_walk.specs.Nodes.{nodeInside, inBody, EdgeAt, EdgeFrom}
 use Rattle.lvs_walk.specs.declared.EdgeRead.{EdgeRead}
 use Rattle.lvs_walk.specs.declared.EdgeRead.the-variants.{Edge, End}
 use Rattle.lvs_walk.specs.Hits.{Hit, signed, worth, hits, nameFor, textPlace, hitOf, First}
-use Rattle.lvs_walk.specs.Crossing.{componentAt, edgeType, crossing, matchOf, slotsBefore, undone, Crossed}
+use Rattle.lvs_walk.specs.Crossing.{Stands, componentAt, edgeType, crossing, matchOf, slotsBefore, undone, Crossed}
 use Rattle.lvs_walk.specs.declared.Goal.{Goal}
 use Rattle.lvs_walk.specs.declared.Goal.the-variants.{Match as AnyMatch, Packet, Key}
 use Rattle.lvs_walk.specs.declared.Found.{Found}
@@ -118,6 +119,11 @@ leads-all model v s c =
     ap (λ (n : Node). each (crossValue s c) (n .valueEdges) ++ each (crossPattern s c) (n .patternEdges)) (node-at model v) ∙
     (λ i. each-map (crossValue s c) valueEdgeOf (insides type.ValueEdge (nodeInside model v)) i ++ each-map (crossPattern s c) patternEdgeOf (insides type.PatternEdge (nodeInside model v)) i)
 
+leads-same : (s : Bindings) (c : Component) (a b : List ℕ) → insides type.ValueEdge a ≡ insides type.ValueEdge b → insides type.PatternEdge a ≡ insides type.PatternEdge b
+    → leads s c b false 0 ≡ leads s c a false 0
+unfolding leads
+leads-same s c a b p q = rw (p, q)
+
 module _ (s : Bindings) (c : Component) (b : List ℕ) where
   -- one edge more
   leads-next : (pattern : Bool) {at start stop next : ℕ} → EdgeAt b (edgeType pattern) at start stop next
@@ -146,7 +152,7 @@ module _ {A : Type 0} where
   first-here [] ys x h = let z : _≡_ {A = ℕ} 0 1 = cc in absurd (omega arith)
   first-here (y ∷ xs) ys x h = sym h
 
--- what is looked for: the hits of the Node v with the component c and those behind it
+-- what is looked for: the hits of the Node v with the component c and those behind it; `edges` has the Node's
 pub record Search : Type 0 where
   pub model : List ℕ
   pub packet : List ℕ
@@ -157,6 +163,7 @@ pub record Search : Type 0 where
   pub cs : List Component
   pub v : ℕ
   pub slots : List ℕ
+  pub edges : List ℕ
 
 -- the hits behind a match
 abbrev pub behind : Search → Match → List Hit
@@ -167,48 +174,50 @@ whole S = hits (modelOf (S .model)) (rowFrom (S .key) (S .from)) (S .goal) (S .c
 
 -- those of the edges from a place on
 abbrev pub left : Search → Bool → ℕ → List Hit
-left S pattern at = each (behind S) (leads (bindingsOf (S .packet) (S .key) (S .slots)) (S .c) (nodeInside (S .model) (S .v)) pattern at)
+left S pattern at = each (behind S) (leads (bindingsOf (S .packet) (S .key) (S .slots)) (S .c) (S .edges) pattern at)
 
 -- no edge before this place has a hit, and the slots are as they were
 pub record Turn (S : Search) (slots : List ℕ) (pattern : Bool) (at : ℕ) : Type 0 where
   pub kept : slots ≡ S .slots
   pub so-far : first (whole S) ≡ first (left S pattern at)
 
-pub turn-first : (S : Search) → Turn S (S .slots) false 0
-turn-first S =
+pub turn-first : (S : Search) → ((t : ℕ) → inBody t ≡ true → insides t (S .edges) ≡ insides t (nodeInside (S .model) (S .v))) → Turn S (S .slots) false 0
+unfolding inBody
+turn-first S same =
     record {
       kept = refl;
       so-far =
           ap first
           (hits-step (modelOf (S .model)) (rowFrom (S .key) (S .from)) (S .goal) (S .c) (S .cs) (S .v) (bindingsOf (S .packet) (S .key) (S .slots)) ∙
-          ap (each (behind S)) (leads-all (S .model) (S .v) (bindingsOf (S .packet) (S .key) (S .slots)) (S .c)));
+          ap (each (behind S))
+          (leads-all (S .model) (S .v) (bindingsOf (S .packet) (S .key) (S .slots)) (S .c) ∙ leads-same (bindingsOf (S .packet) (S .key) (S .slots)) (S .c) (S .edges) (nodeInside (S .model) (S .v)) (same type.ValueEdge refl) (same type.PatternEdge refl)));
     }
 
 module _ {S : Search} {slots : List ℕ} where
   -- the ValueEdges are done
-  pub turn-patterns : {at : ℕ} → Turn S slots false at → insides (edgeType false) (drop at (nodeInside (S .model) (S .v))) ≡ [] → Turn S slots true 0
+  pub turn-patterns : {at : ℕ} → Turn S slots false at → insides (edgeType false) (drop at (S .edges)) ≡ [] → Turn S slots true 0
   turn-patterns {at} t e =
       record {
         kept = t .kept;
-        so-far = t .so-far ∙ ap (λ (l : List Match). first (each (behind S) l)) (leads-turn (bindingsOf (S .packet) (S .key) (S .slots)) (S .c) (nodeInside (S .model) (S .v)) at e);
+        so-far = t .so-far ∙ ap (λ (l : List Match). first (each (behind S) l)) (leads-turn (bindingsOf (S .packet) (S .key) (S .slots)) (S .c) (S .edges) at e);
       }
 
   -- all edges are done
-  pub turn-none : {at : ℕ} → Turn S slots true at → insides (edgeType true) (drop at (nodeInside (S .model) (S .v))) ≡ [] → First (S .packet) (S .key) (whole S) (S .slots) Nothing slots
+  pub turn-none : {at : ℕ} → Turn S slots true at → insides (edgeType true) (drop at (S .edges)) ≡ [] → First (S .packet) (S .key) (whole S) (S .slots) Nothing slots
   turn-none {at} t e =
       record {
-        answer = sym (t .so-far ∙ ap (λ (l : List Match). first (each (behind S) l)) (leads-end (bindingsOf (S .packet) (S .key) (S .slots)) (S .c) (nodeInside (S .model) (S .v)) at e));
+        answer = sym (t .so-far ∙ ap (λ (l : List Match). first (each (behind S) l)) (leads-end (bindingsOf (S .packet) (S .key) (S .slots)) (S .c) (S .edges) at e));
         kept = λ z. t .kept;
       }
 
   -- the edge that was read, its crossing r with the slots after it
   module _ {pattern : Bool} {at start stop next : ℕ} {r : Crossing} {after : List ℕ} (t : Turn S slots pattern at)
-      (edge : EdgeAt (nodeInside (S .model) (S .v)) (edgeType pattern) at start stop next)
-      (crossed : Crossed (S .packet) (S .key) (crossing pattern (bindingsOf (S .packet) (S .key) slots) (S .c) (take (stop - start) (drop start (nodeInside (S .model) (S .v))))) slots r after) where
+      (edge : EdgeAt (S .edges) (edgeType pattern) at start stop next)
+      (crossed : Crossed (S .packet) (S .key) (crossing pattern (bindingsOf (S .packet) (S .key) slots) (S .c) (take (stop - start) (drop start (S .edges)))) slots r after) where
     step : first (whole S) ≡ first (each (behind S) (matchOf (S .packet) (S .key) r after) ++ left S pattern next)
     step =
         let β : Bindings = bindingsOf (S .packet) (S .key) (S .slots) in
-        let b : List ℕ = nodeInside (S .model) (S .v) in
+        let b : List ℕ = S .edges in
         let x : List Match = crossing pattern β (S .c) (take (stop - start) (drop start b)) in
         let q : x ≡ matchOf (S .packet) (S .key) r after = rw (t .kept) at (crossed .reached) in
         t .so-far ∙ ap (λ (l : List Match). first (each (behind S) l)) (leads-next β (S .c) b pattern edge) ∙
@@ -259,10 +268,9 @@ text-short packet AnyMatch at n p k = omega arith
 text-short packet Packet at n p k = omega arith
 text-short packet (Key x) at n p k = omega arith
 
-module _ {S : Search} {b : List ℕ} (b-is : b ≡ nodeInside (S .model) (S .v)) {slots : List ℕ} {pattern : Bool} {at : ℕ} (t : Turn S slots pattern at) {r : EdgeRead}
-    (read : EdgeFrom b (edgeType pattern) at r) where
-  none-left : r ≡ End → insides (edgeType pattern) (drop at (nodeInside (S .model) (S .v))) ≡ []
-  none-left e = rw b-is at (subst (EdgeFrom b (edgeType pattern) at) e read)
+module _ {S : Search} {slots : List ℕ} {pattern : Bool} {at : ℕ} (t : Turn S slots pattern at) {r : EdgeRead} (read : EdgeFrom (S .edges) (edgeType pattern) at r) where
+  none-left : r ≡ End → insides (edgeType pattern) (drop at (S .edges)) ≡ []
+  none-left e = subst (EdgeFrom (S .edges) (edgeType pattern) at) e read
 
   pub patterns-next : r ≡ End → pattern ≡ false → Turn S slots true 0
   patterns-next e p = turn-patterns (rw p at t) (rw p at (none-left e))
@@ -271,27 +279,21 @@ module _ {S : Search} {b : List ℕ} (b-is : b ≡ nodeInside (S .model) (S .v))
   all-done e p = turn-none (rw p at t) (rw p at (none-left e))
 
   module _ {start stop next : ℕ} (found : r ≡ Edge start stop next) where
-    pub edge-is : EdgeAt b (edgeType pattern) at start stop next
-    edge-is = subst (EdgeFrom b (edgeType pattern) at) found read
+    pub edge-is : EdgeAt (S .edges) (edgeType pattern) at start stop next
+    edge-is = subst (EdgeFrom (S .edges) (edgeType pattern) at) found read
 
     module _ {x : Crossing} {after : List ℕ}
-        (crossed : Crossed (S .packet) (S .key) (crossing pattern (bindingsOf (S .packet) (S .key) slots) (S .c) (take (stop - start) (drop start b))) slots x after) where
-      edge-there : EdgeAt (nodeInside (S .model) (S .v)) (edgeType pattern) at start stop next
-      edge-there = rw b-is at edge-is
-
-      crossed-there : Crossed (S .packet) (S .key) (crossing pattern (bindingsOf (S .packet) (S .key) slots) (S .c) (take (stop - start) (drop start (nodeInside (S .model) (S .v))))) slots x after
-      crossed-there = rw b-is at crossed
-
+        (crossed : Crossed (S .packet) (S .key) (crossing pattern (bindingsOf (S .packet) (S .key) slots) (S .c) (take (stop - start) (drop start (S .edges)))) slots x after) where
       pub edge-shut : x ≡ Shut → Turn S after pattern next
-      edge-shut e = turn-shut t edge-there crossed-there e
+      edge-shut e = turn-shut t edge-is crossed e
 
       module _ {d : ℕ} {u : Undo} {q : Found} {last : List ℕ} (opened : x ≡ Open d u)
           (walked : First (S .packet) (S .key) (behind S (d, bindingsOf (S .packet) (S .key) after)) after q last) where
         pub edge-back : q ≡ Nothing → {now : List ℕ} → now ≡ undone u last → Turn S now pattern next
-        edge-back e back = turn-back t edge-there crossed-there opened walked e back
+        edge-back e back = turn-back t edge-is crossed opened walked e back
 
         pub edge-found : {p k : ℕ} → q ≡ At p k → First (S .packet) (S .key) (whole S) (S .slots) q last
-        edge-found e = turn-found t edge-there crossed-there opened walked e
+        edge-found e = turn-found t edge-is crossed opened walked e
 
 -- ---- a walk from a component on
 
@@ -302,23 +304,37 @@ module _ (packet key : List ℕ) (goal : Goal) (at : ℕ) {name : List ℕ} (nam
   pub no-component : r ≡ Ended → rowFrom (nameFor packet key goal) at ≡ []
   no-component e = rw name-is at (subst (ComponentAt name at) e read)
 
-abbrev pub searchAt : List ℕ → List ℕ → List ℕ → ℕ → Goal → ℕ → ℕ → ℕ → ℕ → List ℕ → Search
-searchAt model packet key from goal v at stop text slots =
+abbrev pub searchAt : List ℕ → List ℕ → List ℕ → ℕ → Goal → ℕ → ℕ → ℕ → List ℕ → List ℕ → List ℕ → Search
+searchAt model packet key from goal v stop text c slots edges =
     record {
       model = model;
       packet = packet;
       key = key;
       from = from;
       goal = goal;
-      c = componentAt packet key text (stop - at);
+      c = componentAt packet key text (length c);
       cs = rowFrom (nameFor packet key goal) stop;
       v = v;
       slots = slots;
+      edges = edges;
     }
 
--- what is found for the component and those behind it is what the walk looks for
-pub begun : (model packet key : List ℕ) (from : ℕ) (goal : Goal) (v : ℕ) (slots : List ℕ) {at stop text : ℕ} → text ≡ textPlace packet goal at
-    → RowStep (nameFor packet key goal) at stop → {r : Found} {after : List ℕ}
-    → First packet key (whole (searchAt model packet key from goal v at stop text slots)) slots r after
-    → First packet key (hits (modelOf model) (rowFrom key from) goal (rowFrom (nameFor packet key goal) at) v (bindingsOf packet key slots)) slots r after
-begun model packet key from goal v slots t f g = rw (row-found packet key goal f, ← t) g
+module _ (packet key : List ℕ) (goal : Goal) {name c : List ℕ} {at stop text : ℕ} (name-is : name ≡ nameFor packet key goal) (c-is : c ≡ take (stop - at) (drop at name))
+    (text-at : text ≡ textPlace packet goal at) (f : RowStep (nameFor packet key goal) at stop) where
+  c-there : c ≡ take (stop - at) (drop at (nameFor packet key goal))
+  c-there = rw name-is at c-is
+
+  size-is : length c ≡ stop - at
+  size-is = ap length c-there ∙ length-take-le (stop - at) (drop at (nameFor packet key goal)) (omega (arith, f .within, length-drop at (nameFor packet key goal)))
+
+  pub stands : text < 65536 → stop - at < 65536 → Stands packet key text c
+  stands low short =
+      let inside : at < length (nameFor packet key goal) = omega (arith, f .after, f .within) in
+      let t : textFrom packet key text ≡ drop at (nameFor packet key goal) = rw text-at (text-is packet key goal at inside) in
+      record { alone = rw c-there (f .alone); content = rw (t, c-there) (sym (f .content)); low = low; short = omega (arith, size-is); some = omega (arith, size-is, f .after) }
+
+  -- what is found for the component and those behind it is what the walk looks for
+  pub begun : (model : List ℕ) (from v : ℕ) (slots : List ℕ) {r : Found} {after : List ℕ}
+      → First packet key (whole (searchAt model packet key from goal v stop text c slots [])) slots r after
+      → First packet key (hits (modelOf model) (rowFrom key from) goal (rowFrom (nameFor packet key goal) at) v (bindingsOf packet key slots)) slots r after
+  begun model from v slots g = rw (row-found packet key goal f, ← text-at, ← size-is) g

@@ -1,5 +1,7 @@
 pub mod Nodes
 pub mod Edges
+pub mod Fields
 pub mod Laws
 pub mod Words
+pub mod Places
 pub mod Answers

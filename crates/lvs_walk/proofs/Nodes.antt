@@ -7,53 +7,70 @@ use mathlib.Core.Option.{none}
 use native.Mathlib.Omega.{arith}
 use borrow.Author.Tests.{eq-eqb, ne-eqb}
 use lib.Dec.{eqb}
-use lib.ListN.{length, take, drop, getD, List·getD-eq-default, List·getD-map}
+use lib.ListN.{length, take, drop, getD, length-drop, List·getD-eq-default, List·getD-map}
+use lib.Seq.{length-take-le, take-add, drop-at, drop-drop}
 use Rattle.tlv.specs.Element.{Element, cuts}
 use Rattle.tlv.specs.Number.{integer}
-use Rattle.tlv.specs.Reading.{readAt}
 use Rattle.tlv.specs.declared.Place.{Place}
-use Rattle.tlv.specs.declared.Read.{Read}
-use Rattle.tlv.specs.declared.Read.the-variants.{Found, End, Malformed}
-use Rattle.tlv.proofs.Cuts.{Step, seen, cuts-end, element-nil}
+use Rattle.tlv.proofs.Cuts.{Step, cuts-end, element-nil}
 use Rattle.lvs_spec.specs.Lists.{member, any}
 use Rattle.lvs_spec.specs.Types as type
 use Rattle.lvs_spec.specs.Model.{Model, Node, eachCut, insides, integers, theInside, theInteger, numberOf, nodeOf, modelOf}
 use Rattle.lvs_spec.specs.Walk.{noNode, nodeAt, lists}
 use Rattle.lvs_fields.proofs.Elements.{Stop, insides-found, insides-other, insides-stop}
-use Rattle.lvs_walk.specs.Nodes.{nodeInside, HeadAt, NodesAt, NodePart, EdgeAt}
+use Rattle.lvs_fields.specs.declared.Part.{Part}
+use Rattle.lvs_walk.specs.Nodes.{nodeInside, inBody, BodyFrom, BodyPart, EdgeAt}
 
--- ---- a Node's inside
+-- ---- a Node's body
 
-module _ {model places : List ℕ} (nodes : NodesAt model places) (v : ℕ) where
-  pub node-none : length places ≤ v → NodePart model v (record { start = 0; end = 0 })
-  unfolding nodeInside
-  node-none h =
-      record {
-        order = omega arith;
-        within = omega arith;
-        is = sym (List·getD-eq-default (insides type.Node model) [] {n = v} (omega (arith, nodes .count)));
-      }
+module _ {t : ℕ} where
+  pub in-value : t ≡ type.ValueEdge → true ≡ inBody t
+  unfolding inBody
+  in-value e = rw (eq-eqb t type.ValueEdge e)
 
-  module _ (h : v < length places) {r : Read} (read : r ≡ readAt model (getD places v 0)) where
-    head : HeadAt model (getD places v 0) (nodeInside model v)
-    head = nodes .at v h
+  module _ (a : t ≡ type.ValueEdge → ⊥) where
+    pub in-pattern : t ≡ type.PatternEdge → true ≡ inBody t
+    unfolding inBody
+    in-pattern e = rw (ne-eqb t type.ValueEdge a, eq-eqb t type.PatternEdge e)
 
-    same-read : r ≡ Found (head .typ) (head .start) (head .stop) (head .next)
-    same-read = read ∙ head .read-is
+    pub in-signer : (t ≡ type.PatternEdge → ⊥) → eqb t type.SignConstraint ≡ inBody t
+    unfolding inBody
+    in-signer b = rw (ne-eqb t type.ValueEdge a, ne-eqb t type.PatternEdge b)
 
-    pub node-found : {t start stop : ℕ} {n : Place} → r ≡ Found t start stop n → NodePart model v (record { start = start; end = stop })
-    node-found {t} {start} {stop} {n} e =
-        let st = seen model (getD places v 0) read e in
-        let q = same-read in
-        let a : head .start ≡ start = cc in
-        let b : head .stop ≡ stop = cc in
-        record { order = st .order; within = st .within; is = rw (← a, ← b) (head .inside-is) }
+other-type : {t k : ℕ} → inBody t ≡ false → inBody k ≡ true → t ≡ k → ⊥
+other-type p q e = let r : _≡_ {A = Bool} false true = sym p ∙ ap inBody e ∙ q in let z : _≡_ {A = ℕ} 0 1 = cc in omega arith
 
-    pub node-ended : r ≡ End → NodePart model v (record { start = 0; end = 0 })
-    node-ended e = let q = same-read in let z : _≡_ {A = ℕ} 0 1 = cc in absurd (omega arith)
+pub body-first : (s : List ℕ) → BodyFrom s 0
+body-first s = record { within = omega arith; is = λ t h. refl }
 
-    pub node-broken : r ≡ Malformed → NodePart model v (record { start = 0; end = 0 })
-    node-broken e = let q = same-read in let z : _≡_ {A = ℕ} 0 1 = cc in absurd (omega arith)
+pub body-next : {s : List ℕ} {at t start stop : ℕ} {n : Place} {r : Bool} → BodyFrom s at → Step s at t start stop n → r ≡ inBody t → r ≡ false → BodyFrom s (n .at)
+body-next inv st p q =
+    record {
+      within = omega (arith, st .moved, st .within);
+      is = λ k h. sym (insides-other k st (other-type (sym p ∙ q) h)) ∙ inv .is k h;
+    }
+
+drop-take : (k n : ℕ) (l : List ℕ) → k ≤ length l → drop k (take (k + n) l) ≡ take n (drop k l)
+drop-take k n l h = rw (take-add k n l) (drop-at (take k l) (take n (drop k l)) k (length-take-le k l h))
+
+-- from a Node's body on to its end
+pub body-part : {model : List ℕ} {v start stop k : ℕ} → start ≤ stop → stop ≤ length model → nodeInside model v ≡ take (stop - start) (drop start model)
+    → BodyFrom (take (stop - start) (drop start model)) k → BodyPart model v (record { start = start + k; end = stop })
+body-part {model} {v} {start} {stop} {k} order within p B =
+    let d : length (drop start model) ≡ length model - start = length-drop start model in
+    let l : length (take (stop - start) (drop start model)) ≡ stop - start = length-take-le (stop - start) (drop start model) (omega arith) in
+    let w : k ≤ stop - start = omega (arith, B .within) in
+    let n : k + (stop - (start + k)) ≡ stop - start = omega arith in
+    let q : drop k (take (stop - start) (drop start model)) ≡ take (stop - (start + k)) (drop (start + k) model) =
+    ap (λ (x : ℕ). drop k (take x (drop start model))) (sym n) ∙ drop-take k (stop - (start + k)) (drop start model) (omega arith) ∙ ap (take (stop - (start + k))) (drop-drop k start model) in
+    record { order = omega arith; within = within; is = λ t h. ap (insides t) (sym q) ∙ B .is t h ∙ ap (insides t) (sym p) }
+
+-- a Node that the model does not have
+pub no-body : (model : List ℕ) (v : ℕ) → length (insides type.Node model) ≤ v → BodyPart model v (record { start = 0; end = 0 })
+unfolding nodeInside
+no-body model v h =
+    let p : getD (insides type.Node model) v [] ≡ [] = List·getD-eq-default (insides type.Node model) [] {n = v} h in
+    record { order = omega arith; within = omega arith; is = λ t q. ap (insides t) (sym p) }
 
 -- ---- the typed Node
 
@@ -88,6 +105,11 @@ module _ (k : ℕ) {s : List ℕ} {at : ℕ} (inv : listedFrom k s at ≡ member
 pub lists-is : (model : List ℕ) (p k : ℕ) → lists (modelOf model) p k ≡ member k (integers type.SignConstraint (nodeInside model p))
 unfolding lists nodeOf
 lists-is model p k = ap (λ (n : Node). member k (n .signers)) (node-at model p)
+
+pub lists-body : (model : List ℕ) (p k : ℕ) {b : Part} → BodyPart model p b
+    → member k (integers type.SignConstraint (take (b .end - b .start) (drop (b .start) model))) ≡ lists (modelOf model) p k
+unfolding integers inBody
+lists-body model p k B = ap (λ (l : List (List ℕ)). member k (map numberOf l)) (B .is type.SignConstraint refl) ∙ sym (lists-is model p k)
 
 -- ---- the next edge
 

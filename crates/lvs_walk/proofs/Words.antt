@@ -1,4 +1,4 @@
--- The words of a match, and the place of each Node, as their loops write them. Assumes nothing.
+-- The words of a match, as their loop writes them. Assumes nothing.
 use Prim.Native.Nat.{ℕ, zero, suc, _+_, _-_, _*_, _≤_, _<_}
 use mathlib.Core.Path.{_≡_, refl, sym, ap, _∙_}
 use mathlib.Core.Bool.{Bool, true, false, cond}
@@ -12,21 +12,12 @@ use borrow.Author.Tests.{eq-eqb, ne-eqb, lt-ltb, le-ltb, eqb-true, eqb-false}
 use lib.Dec.{eqb}
 use lib.ListN.{length, take, drop, getD, set, length-set, length-drop, drop-of-length-le}
 use lib.Seq.{paste, paste-zero, paste-suc, drop-cons, drop-drop, take-all, getD-take, getD-drop, getD-set-same, getD-set-other, length-take-le}
-use Rattle.tlv.specs.Reading.{readAt}
-use Rattle.tlv.specs.declared.Place.{Place}
-use Rattle.tlv.specs.declared.Read.{Read}
-use Rattle.tlv.specs.declared.Read.the-variants.{Found}
-use Rattle.tlv.proofs.Cuts.{Step, seen}
-use Rattle.lvs_spec.specs.Limits.{maxNodes, maxModelBytes, bindingWords}
-use Rattle.lvs_spec.specs.Types as type
-use Rattle.lvs_spec.specs.Model.{insides}
+use Rattle.lvs_spec.specs.Limits.{bindingWords}
 use Rattle.lvs_spec.specs.Names.{Component}
 use Rattle.lvs_spec.specs.Walk.{Bindings}
 use Rattle.lvs_spec.specs.Answers.{words, boundCount}
-use Rattle.lvs_fields.proofs.Elements.{Stop, insides-found, insides-other, insides-stop}
 use Rattle.lvs_constraints.specs.Bindings.{placeIn, binding, bindingsOf}
-use Rattle.lvs_walk.specs.Nodes.{nodeInside, HeadAt, NodesAt}
-use Rattle.lvs_walk.specs.Calls.{Small, wordOf}
+use Rattle.lvs_walk.specs.Calls.{wordOf}
 
 -- ---- one binding
 
@@ -168,65 +159,3 @@ module _ {name slots before buffer : List ℕ} {bound i : ℕ} (W : Written name
       let e : i ≡ 128 = omega (arith, W .room) in
       let z : drop (i * 2) slots ≡ [] = drop-of-length-le slots {i = i * 2} (omega arith) in
       omega (arith, W .counted, ap (λ (x : List ℕ). boundCount (bindingsOf name [] x)) z)
-
--- ---- the loop that records the Nodes
-
-pub record Filled (model places : List ℕ) (n at : ℕ) : Type 0 where
-  pub few : n ≤ length (insides type.Node model)
-  pub room : length places ≡ maxNodes
-  pub rest : insides type.Node (drop at model) ≡ drop n (insides type.Node model)
-  pub heads : (v : ℕ) → v < n → HeadAt model (getD places v 0) (nodeInside model v)
-
-pub filled-first : (model places : List ℕ) → length places ≡ maxNodes → Filled model places 0 0
-filled-first model places l = record { few = omega arith; room = l; rest = refl; heads = λ v h. absurd (omega arith) }
-
-module _ {model places : List ℕ} {n at : ℕ} (F : Filled model places n at) where
-  module _ {r : Read} {t start stop : ℕ} {p : Place} (read : r ≡ readAt model at) (found : r ≡ Found t start stop p) where
-    step : Step model at t start stop p
-    step = seen model at read found
-
-    pub filled-other : (t ≡ type.Node → ⊥) → Filled model places n (p .at)
-    filled-other e = record { few = F .few; room = F .room; rest = sym (insides-other type.Node step e) ∙ F .rest; heads = F .heads }
-
-    module _ (e : t ≡ type.Node) where
-      rest-is : drop n (insides type.Node model) ≡ take (stop - start) (drop start model) ∷ insides type.Node (drop (p .at) model)
-      rest-is = sym (F .rest) ∙ insides-found type.Node step e
-
-      pub more : n < length (insides type.Node model)
-      more = omega (arith, ap length rest-is, length-drop n (insides type.Node model))
-
-      pub filled-node : length (insides type.Node model) ≤ maxNodes → Filled model (set places n at) (n + 1) (p .at)
-      unfolding nodeInside
-      filled-node small =
-          let c = drop-cons (insides type.Node model) n [] more in
-          let h : getD (insides type.Node model) n [] ≡ take (stop - start) (drop start model) = cc (c, rest-is) in
-          let d : drop (suc n) (insides type.Node model) ≡ insides type.Node (drop (p .at) model) = cc (c, rest-is) in
-          record {
-            few = omega (arith, more);
-            room = simp length-set (F .room);
-            rest = sym d ∙ rw (add-one n);
-            heads = λ v l. heads-at v l h;
-          }
-        where
-          heads-at : (v : ℕ) → v < n + 1 → getD (insides type.Node model) n [] ≡ take (stop - start) (drop start model)
-              → HeadAt model (getD (set places n at) v 0) (getD (insides type.Node model) v [])
-          heads-at v l h = go (eqb v n) refl
-            where
-              go : (b : Bool) → eqb v n ≡ b → HeadAt model (getD (set places n at) v 0) (getD (insides type.Node model) v [])
-              go true q =
-                  let z = eqb-true v n q in
-                  rw (z, getD-set-same places n at 0 (omega (arith, F .room, more)), h)
-                  (record { typ = t; start = start; stop = stop; next = p; read-is = sym read ∙ found; inside-is = refl })
-              go false q =
-                  let z = eqb-false v n q in
-                  rw (getD-set-other places n v at 0 z) (F .heads v (less z))
-                where
-                  less : (v ≡ n → ⊥) → v < n
-                  less z = omega arith
-
-  pub filled-all : length (insides type.Node model) ≤ maxNodes → Stop model at → NodesAt model (take n places)
-  filled-all small st =
-      let none-left : drop n (insides type.Node model) ≡ [] = sym (F .rest) ∙ insides-stop type.Node st in
-      let all-of : n ≡ length (insides type.Node model) = omega (arith, F .few, ap length none-left, length-drop n (insides type.Node model)) in
-      let l : length (take n places) ≡ n = length-take-le n places (omega (arith, F .room)) in
-      record { count = l ∙ all-of; at = λ v h. rw (getD-take n places v 0 (omega arith)) (F .heads v (omega arith)) }

@@ -1,11 +1,11 @@
--- The place of each Node in a model.
-use Prim.Native.Nat.{ℕ, _-_, _≤_, _<_}
+-- Where in a model the edges and signers of each Node are.
+use Prim.Native.Nat.{ℕ, _+_, _-_, _*_, _≤_, _<_}
 use mathlib.Core.Path.{_≡_}
+use mathlib.Core.Bool.{Bool, true, cond, _||_}
 use mathlib.Core.List.{List, [], _∷_}
-use lib.ListN.{length, take, drop, getD}
-use Rattle.tlv.specs.Reading.{readAt}
-use Rattle.tlv.specs.declared.Place.{Place}
-use Rattle.tlv.specs.declared.Read.the-variants.{Found}
+use lib.Dec.{eqb, ltb}
+use lib.ListN.{length, take, drop, getD, replicate}
+use Rattle.lvs_spec.specs.Limits.{maxNodes}
 use Rattle.lvs_spec.specs.Types as type
 use Rattle.lvs_spec.specs.Model.{insides}
 use Rattle.lvs_fields.specs.declared.Part.{Part}
@@ -16,24 +16,36 @@ use Rattle.lvs_walk.specs.declared.EdgeRead.the-variants.{Edge, End}
 unfoldable pub nodeInside : List ℕ → ℕ → List ℕ
 nodeInside model v = getD (insides type.Node model) v []
 
--- an element with this inside stands at a place
-pub record HeadAt (s : List ℕ) (at : ℕ) (inside : List ℕ) : Type 0 where
-  pub typ : ℕ
-  pub start : ℕ
-  pub stop : ℕ
-  pub next : Place
-  pub read-is : readAt s at ≡ Found typ start stop next
-  pub inside-is : take (stop - start) (drop start s) ≡ inside
+-- what the walk looks for in a Node: edges and signers
+unfoldable pub inBody : ℕ → Bool
+inBody t = eqb t type.ValueEdge || eqb t type.PatternEdge || eqb t type.SignConstraint
 
--- places has one entry for each Node, and it is that Node's place
-pub record NodesAt (model places : List ℕ) : Type 0 where
-  pub count : length places ≡ length (insides type.Node model)
-  pub at : (v : ℕ) → v < length places → HeadAt model (getD places v 0) (nodeInside model v)
+-- from this place on there are all those of s
+pub record BodyFrom (s : List ℕ) (at : ℕ) : Type 0 where
+  pub within : at ≤ length s
+  pub is : (t : ℕ) → inBody t ≡ true → insides t (drop at s) ≡ insides t s
 
-pub record NodePart (model : List ℕ) (v : ℕ) (p : Part) : Type 0 where
+-- a part of the model with all those of the Node v
+pub record BodyPart (model : List ℕ) (v : ℕ) (p : Part) : Type 0 where
   pub order : p .start ≤ p .end
   pub within : p .end ≤ length model
-  pub is : take (p .end - p .start) (drop (p .start) model) ≡ nodeInside model v
+  pub is : (t : ℕ) → inBody t ≡ true → insides t (take (p .end - p .start) (drop (p .start) model)) ≡ insides t (nodeInside model v)
+
+-- two words for each Node: start and end of such a part
+unfoldable pub placeWords : ℕ
+placeWords = maxNodes * 2
+
+abbrev pub noPlaces : List ℕ
+noPlaces = replicate placeWords 0
+
+unfoldable pub partAt : List ℕ → ℕ → Part
+partAt places v =
+    cond (ltb v maxNodes) (record { start = getD places (v * 2) 0; end = getD places (v * 2 + 1) 0 }) (record { start = 0; end = 0 })
+
+-- the words of every Node, and of those that the model does not have
+pub record NodesAt (model places : List ℕ) : Type 0 where
+  pub room : length places ≡ placeWords
+  pub body : (v : ℕ) → BodyPart model v (partAt places v)
 
 -- the first edge of type t from a place on, as a part of its Node, and the place behind it
 pub record EdgeAt (s : List ℕ) (t at start stop next : ℕ) : Type 0 where

@@ -3,25 +3,27 @@
 // A layer below the public calls, which refuse what is too long before they come here: that, and word arrays of the right length, all 0 at
 // the start of a match, is what `requires` asks. The bytes are any.
 //
-// `places` has the place of each Node, `packet` and `key` are the two names, `slots` the bindings as they stand.
+// `places` has two words for each Node: where its edges and signers start in the model, and where it ends. `packet` and `key` are the two
+// names, `slots` the bindings as they stand, and `c` the bytes of the component that is to pass, which stands at `at` of the names' text.
 ghost use mathlib.Core.Path.{_≡_};
 ghost use mathlib.Core.Bool.{true, false, cond};
 ghost use lib.Dec.{eqb};
 ghost use Prim.Native.Nat.{ℕ, _+_, _*_, _≤_, _<_};
-ghost use lib.ListN.{length, take, drop};
-ghost use mathlib.Core.List.{[], _++_};
-ghost use Rattle.lvs_spec.specs.Limits.{maxNodes, maxNameBytes, bindingWords};
+ghost use lib.ListN.{length, drop};
+ghost use mathlib.Core.List.{List, [], _++_};
+ghost use Rattle.lvs_spec.specs.Limits.{maxNameBytes, bindingWords};
 ghost use Rattle.lvs_spec.specs.Answers.{words, boundCount};
 ghost use Rattle.lvs_spec.specs.Types as type;
 ghost use Rattle.lvs_spec.specs.Lists.{member};
 ghost use Rattle.lvs_spec.specs.Model.{integers, modelOf};
 ghost use Rattle.lvs_spec.specs.Walk.{lists};
 ghost use Rattle.lvs_names.specs.Rows.{rowFrom};
+ghost use Rattle.lvs_names.specs.Contents.{Alone};
 ghost use Rattle.lvs_constraints.specs.Bindings.{binding, bindingsOf};
-ghost use Rattle.lvs_walk.specs.Nodes.{NodesAt, NodePart, EdgeFrom};
+ghost use Rattle.lvs_walk.specs.Nodes.{placeWords, noPlaces, inBody, BodyFrom, partAt, NodesAt, EdgeFrom};
 ghost use Rattle.lvs_walk.specs.Calls.{Small, clear, FirstMatch, FirstPair, wordOf};
 ghost use Rattle.lvs_walk.specs.Hits.{hits, nameFor, textPlace, Within, First};
-ghost use Rattle.lvs_walk.specs.Crossing.{componentAt, edgeType, crossing, undone, Saved, Crossed};
+ghost use Rattle.lvs_walk.specs.Crossing.{Stands, componentAt, edgeType, crossing, plainFields, FieldsOf, undone, Saved, Crossed};
 use lvs_constraints::Slot;
 use lvs_fields::Part;
 use lvs_names::ComponentRead;
@@ -34,6 +36,15 @@ use lvs_spec::types::VALUE;
 use lvs_spec::types::VALUE_EDGE;
 use tlv::Place;
 use tlv::Read;
+
+const PLACE_WORDS: usize = 512;
+
+// What a PatternEdge leads to and binds, and where in it the Constraints are from.
+pub struct PatternFields {
+    pub dest: u64,
+    pub tag: u64,
+    pub rest: usize,
+}
 
 // An edge as a part of its Node, and the place behind it.
 pub enum EdgeRead {
@@ -67,27 +78,60 @@ pub enum Found {
     At(u64, u64),
 }
 
-// The inside of a Node, as a part of the model.
-fn node_part(model: &[u8], places: &[u32], node: u64) -> Part
-    requires { ⌜ NodesAt (now model) (now places) ⌝ }
-    ensures { λ r. ⌜ NodePart (now (model .entry)) node r ⌝ }
+// The part of the model that has a Node's edges and signers.
+fn node_part(places: &[u32], node: u64) -> Part
+    requires { ⌜ length (now places) ≡ placeWords ⌝ }
+    ensures { λ r. ⌜ r ≡ partAt (now (places .entry)) node ⌝ }
 {
-    if places.len() as u64 <= node {
+    if lvs_spec::MAX_NODES as u64 <= node {
         return Part { start: 0, end: 0 };
     }
-    let i = node as usize;
-    let place = Place {
-        at: places[i] as usize,
-    };
-    match place.element(model) {
-        Read::Found {
-            typ: _,
-            start,
-            end,
-            next: _,
-        } => Part { start, end },
-        Read::End => Part { start: 0, end: 0 },
-        Read::Malformed => Part { start: 0, end: 0 },
+    let i = node as usize * 2;
+    Part {
+        start: places[i] as usize,
+        end: places[i + 1] as usize,
+    }
+}
+
+// What the walk looks for in a Node: edges and signers.
+fn in_body(typ: u32) -> bool
+    ensures { λ r. ⌜ r ≡ inBody typ ⌝ }
+{
+    if typ == VALUE_EDGE {
+        return true;
+    }
+    if typ == PATTERN_EDGE {
+        return true;
+    }
+    typ == SIGN_CONSTRAINT
+}
+
+// The place of the first of those in a Node, or a place from which on there are none.
+fn body_of(s: &[u8]) -> usize
+    ensures { λ r. ⌜ BodyFrom (now (s .entry)) r ⌝ }
+{
+    let mut place = Place { at: 0 };
+    loop {
+        let at = place.at;
+        match place.element(s) {
+            Read::Found {
+                typ,
+                start: _,
+                end: _,
+                next,
+            } => {
+                if in_body(typ) {
+                    return at;
+                }
+                place = next;
+            }
+            Read::End => {
+                return at;
+            }
+            Read::Malformed => {
+                return at;
+            }
+        }
     }
 }
 
@@ -129,7 +173,7 @@ fn edge_from(s: &[u8], pattern: bool, at: usize) -> EdgeRead
     }
 }
 
-// Whether the Node with this inside lists a signer.
+// Whether a Node lists a signer.
 fn lists_signer(s: &[u8], signer: u64) -> bool
     ensures { λ r. ⌜ r ≡ member signer (integers type.SignConstraint (now (s .entry))) ⌝ }
 {
@@ -164,7 +208,7 @@ fn lists_node(model: &[u8], places: &[u32], node: u64, signer: u64) -> bool
     requires { ⌜ NodesAt (now model) (now places) ⌝ }
     ensures { λ r. ⌜ r ≡ lists (modelOf (now (model .entry))) node signer ⌝ }
 {
-    let part = node_part(model, places, node);
+    let part = node_part(places, node);
     let a = part.start;
     let b = part.end;
     lists_signer(&model[a..b], signer)
@@ -192,44 +236,81 @@ fn put_back(slots: &mut [u32], undo: Undo)
     slots[i + 1] = undo.size;
 }
 
-// Crosses a ValueEdge with the component at `at` of the text.
-fn cross_value<'a>(s: &[u8], packet: &'a [u8], key: &'a [u8], at: usize, slots: &[u32]) -> Crossing
-    requires { ⌜ length (now slots) ≡ bindingWords ⌝ }
-    ensures { λ r. ⌜ ((size : ℕ) → Crossed (now (packet .entry)) (now (key .entry))
-        (crossing false (bindingsOf (now (packet .entry)) (now (key .entry)) (now (slots .entry))) (componentAt (now (packet .entry)) (now (key .entry)) at size) (now (s .entry)))
+// Crosses a ValueEdge.
+fn cross_value(s: &[u8], c: &[u8], slots: &[u32]) -> Crossing
+    requires { ⌜ (length (now slots) ≡ bindingWords) × Alone (now c) ⌝ }
+    ensures { λ r. ⌜ ((packet key : List ℕ) (at : ℕ) → Stands packet key at (now (c .entry)) → Crossed packet key
+        (crossing false (bindingsOf packet key (now (slots .entry))) (componentAt packet key at (length (now (c .entry)))) (now (s .entry)))
         (now (slots .entry)) r (now (slots .entry))) ⌝ }
 {
     let part = lvs_fields::inside_of(s, VALUE);
     let a = part.start;
     let b = part.end;
-    if lvs_names::same_component(&s[a..b], lvs_constraints::text_from(packet, key, at)) {
+    if lvs_names::begins_with(&s[a..b], c) {
         return Crossing::Open(lvs_fields::number_in(s, NODE_ID), saved(slots, 0));
     }
     Crossing::Shut
 }
 
-// Crosses a PatternEdge with the component of `size` bytes at `at` of the text, and binds its Tag where that is unbound.
+// Whether an edge begins with a NodeId and a Tag of one byte each, as nearly all do.
+fn plain_fields(s: &[u8]) -> bool
+    ensures { λ r. ⌜ r ≡ plainFields (now (s .entry)) ⌝ }
+{
+    if s.len() < 6 {
+        return false;
+    }
+    if s[0] as u32 != NODE_ID {
+        return false;
+    }
+    if s[1] != 1 {
+        return false;
+    }
+    if s[3] as u32 != TAG {
+        return false;
+    }
+    s[4] == 1
+}
+
+fn pattern_fields(s: &[u8]) -> PatternFields
+    ensures { λ r. ⌜ FieldsOf (now (s .entry)) r ⌝ }
+{
+    if plain_fields(s) {
+        return PatternFields {
+            dest: s[2] as u64,
+            tag: s[5] as u64,
+            rest: 6,
+        };
+    }
+    PatternFields {
+        dest: lvs_fields::number_in(s, NODE_ID),
+        tag: lvs_fields::number_in(s, TAG),
+        rest: 0,
+    }
+}
+
+// Crosses a PatternEdge, and binds its Tag where that is unbound.
 fn cross_pattern<'a>(
     s: &[u8],
     packet: &'a [u8],
     key: &'a [u8],
     at: usize,
-    size: usize,
+    c: &[u8],
     slots: &mut [u32],
 ) -> Crossing
     requires { ⌜ length (now slots) ≡ bindingWords ⌝ }
-    requires { ⌜ (at < 65536) × (size < 65536) × (0 < size) ⌝ }
+    requires { ⌜ Stands (now packet) (now key) at (now c) ⌝ }
     ensures { λ r. ⌜ Crossed (now (packet .entry)) (now (key .entry))
-        (crossing true (bindingsOf (now (packet .entry)) (now (key .entry)) (now (slots .entry))) (componentAt (now (packet .entry)) (now (key .entry)) at size) (now (s .entry)))
+        (crossing true (bindingsOf (now (packet .entry)) (now (key .entry)) (now (slots .entry))) (componentAt (now (packet .entry)) (now (key .entry)) at (length (now (c .entry)))) (now (s .entry)))
         (now (slots .entry)) r (now (slots .exit)) ⌝ }
 {
-    let tag = lvs_fields::number_in(s, TAG);
+    let fields = pattern_fields(s);
+    let tag = fields.tag;
+    let dest = fields.dest;
+    let rest = fields.rest;
     let slot = lvs_constraints::slot_of(slots, tag);
-    let c = lvs_constraints::text_from(packet, key, at);
-    if !lvs_constraints::passes(s, slot, packet, key, slots, c) {
+    if !lvs_constraints::passes(&s[rest..], slot, packet, key, slots, c) {
         return Crossing::Shut;
     }
-    let dest = lvs_fields::number_in(s, NODE_ID);
     if slot.size != 0 {
         return Crossing::Open(dest, saved(slots, 0));
     }
@@ -242,7 +323,7 @@ fn cross_pattern<'a>(
     let i = (tag - 1) as usize * 2;
     let undo = saved(slots, i);
     slots[i] = at as u32;
-    slots[i + 1] = size as u32;
+    slots[i + 1] = c.len() as u32;
     Crossing::Open(dest, undo)
 }
 
@@ -252,19 +333,19 @@ fn cross<'a>(
     packet: &'a [u8],
     key: &'a [u8],
     at: usize,
-    size: usize,
+    c: &[u8],
     slots: &mut [u32],
 ) -> Crossing
     requires { ⌜ length (now slots) ≡ bindingWords ⌝ }
-    requires { ⌜ (at < 65536) × (size < 65536) × (0 < size) ⌝ }
+    requires { ⌜ Stands (now packet) (now key) at (now c) ⌝ }
     ensures { λ r. ⌜ Crossed (now (packet .entry)) (now (key .entry))
-        (crossing pattern (bindingsOf (now (packet .entry)) (now (key .entry)) (now (slots .entry))) (componentAt (now (packet .entry)) (now (key .entry)) at size) (now (s .entry)))
+        (crossing pattern (bindingsOf (now (packet .entry)) (now (key .entry)) (now (slots .entry))) (componentAt (now (packet .entry)) (now (key .entry)) at (length (now (c .entry)))) (now (s .entry)))
         (now (slots .entry)) r (now (slots .exit)) ⌝ }
 {
     if pattern {
-        return cross_pattern(s, packet, key, at, size, slots);
+        return cross_pattern(s, packet, key, at, c, slots);
     }
-    cross_value(s, packet, key, at, slots)
+    cross_value(s, c, slots)
 }
 
 // The name that a goal walks.
@@ -333,8 +414,9 @@ fn walk<'a>(
             },
         };
     };
+    let c = &name[at..end];
     let text = text_place(packet, goal, at);
-    let part = node_part(model, places, node);
+    let part = node_part(places, node);
     let a = part.start;
     let b = part.end;
     let edges = &model[a..b];
@@ -351,7 +433,7 @@ fn walk<'a>(
             }
             EdgeRead::Edge(p, q, next) => {
                 from = next;
-                match cross(&edges[p..q], pattern, packet, key, text, end - at, slots) {
+                match cross(&edges[p..q], pattern, packet, key, text, c, slots) {
                     Crossing::Shut => {}
                     Crossing::Open(dest, undo) => {
                         let r = walk(
@@ -377,34 +459,35 @@ fn walk<'a>(
     }
 }
 
-// Records the place of each Node, and says how many there are.
-fn node_places(model: &[u8], places: &mut [u32]) -> usize
+// Records the two words of each Node.
+fn node_places(model: &[u8], places: &mut [u32])
     requires { ⌜ Small (now model) ⌝ }
-    requires { ⌜ length (now places) ≡ maxNodes ⌝ }
-    ensures { λ r. ⌜ (r ≤ maxNodes) × NodesAt (now (model .entry)) (take r (now (places .exit))) ⌝ }
+    requires { ⌜ now places ≡ noPlaces ⌝ }
+    ensures { λ _. ⌜ NodesAt (now (model .entry)) (now (places .exit)) ⌝ }
 {
     let mut place = Place { at: 0 };
     let mut n: usize = 0;
     loop {
-        let at = place.at;
         match place.element(model) {
             Read::Found {
                 typ,
-                start: _,
-                end: _,
+                start,
+                end,
                 next,
             } => {
                 place = next;
                 if typ == NODE {
-                    places[n] = at as u32;
+                    let body = start + body_of(&model[start..end]);
+                    places[n * 2] = body as u32;
+                    places[n * 2 + 1] = end as u32;
                     n += 1;
                 }
             }
             Read::End => {
-                return n;
+                return;
             }
             Read::Malformed => {
-                return n;
+                return;
             }
         }
     }
@@ -416,12 +499,12 @@ pub fn find_match(model: &[u8], name: &[u8], from: usize, slots: &mut [u32]) -> 
     requires { ⌜ (length (now name) ≤ maxNameBytes) × (now slots ≡ clear) ⌝ }
     ensures { λ r. ⌜ FirstMatch (modelOf (now (model .entry))) (rowFrom (now (name .entry)) from) (now (name .entry)) r (now (slots .exit)) ⌝ }
 {
-    let mut places = [0u32; lvs_spec::MAX_NODES];
-    let n = node_places(model, &mut places);
+    let mut places = [0u32; PLACE_WORDS];
+    node_places(model, &mut places);
     let start = lvs_fields::number_in(model, NODE_ID);
     walk(
         model,
-        &places[..n],
+        &places,
         start,
         name,
         &name[..0],
@@ -445,13 +528,13 @@ pub fn find_pair<'a>(
     requires { ⌜ (length (now packet) ≤ maxNameBytes) × (length (now key) ≤ maxNameBytes) ⌝ }
     ensures { λ r. ⌜ FirstPair (modelOf (now (model .entry))) (rowFrom (now (packet .entry)) «packet_from») (rowFrom (now (key .entry)) «key_from») r ⌝ }
 {
-    let mut places = [0u32; lvs_spec::MAX_NODES];
-    let n = node_places(model, &mut places);
+    let mut places = [0u32; PLACE_WORDS];
+    node_places(model, &mut places);
     let start = lvs_fields::number_in(model, NODE_ID);
     let mut slots = [0u32; lvs_spec::BINDING_WORDS];
     walk(
         model,
-        &places[..n],
+        &places,
         start,
         packet,
         key,

@@ -8,7 +8,7 @@ use native.Mathlib.Nat.{le-refl, not-suc-le-zero}
 use native.Mathlib.Omega.{arith}
 use borrow.Author.Tests.{leb-true}
 use lib.Dec.{leb}
-use lib.ListN.{length, take, drop, length-drop, length-take}
+use lib.ListN.{length, take, drop, getD, length-drop, length-take}
 use lib.Seq.{drop-drop, length-take-le}
 use Rattle.tlv.specs.Number.{Num, unreadable, num, number}
 use Rattle.tlv.specs.Element.{Element, First, first, end, malformed, element, typed, sized, typeInRange, Cuts, done, broken, next, after, cutsBy, cuts, also, whole, split}
@@ -16,7 +16,8 @@ use Rattle.tlv.specs.Reading.{readAt, readFrom}
 use Rattle.tlv.specs.declared.Place.{Place}
 use Rattle.tlv.specs.declared.Read.{Read}
 use Rattle.tlv.specs.declared.Read.the-variants.{Found, End, Malformed}
-use Rattle.tlv.proofs.Numbers.{number-size}
+use Rattle.tlv.proofs.Numbers.{number-size, byte}
+use Rattle.tlv.proofs.Elements.{found, type-ok}
 
 -- what an element that was found says of the list
 pub record Whole (b : List ℕ) (h : ℕ) (e : Element) (rest : List ℕ) : Type 0 where
@@ -231,6 +232,15 @@ read-first s at = go (element (drop at s)) refl
 
 pub first-seen : (s : List ℕ) (at : ℕ) {r a : Read} → r ≡ readAt s at → r ≡ a → FirstSeen s at a
 first-seen s at {r} {a} e f = subst (FirstSeen s at) (sym e ∙ f) (read-first s at)
+
+-- an element whose type and length take one byte each
+pub short-step : (s : List ℕ) (at n : ℕ) → at + 2 + n ≤ length s → 1 ≤ getD s at 0 → getD s at 0 < 253 → getD s (at + 1) 0 ≡ n → n < 253
+    → Step s at (getD s at 0) (at + 2) (at + 2 + n) (record { at = at + 2 + n })
+short-step s at n room low high e few =
+    let a : at + 1 + 1 ≡ at + 2 = omega arith in
+    let b : at + 1 + 1 + getD s (at + 1) 0 ≡ at + 2 + n = omega arith in
+    let p = found s at (omega arith) (byte s at (omega arith) high) (type-ok low (omega arith)) (byte s (at + 1) (omega arith) (omega arith)) (omega arith) in
+    seen s at refl (p ∙ (λ i. Found (getD s at 0) (a i) (b i) (record { at = b i })))
 
 -- ---- the same for `split`
 

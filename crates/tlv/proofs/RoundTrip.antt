@@ -102,6 +102,19 @@ number-bytes (x ∷ bs) v k h e = go (shape x bs v k e)
         let bb : bigEndianBytes (width x) v ≡ take (width x) bs = rw q (rw lx at (spelled-big (take (width x) bs) bt)) in
         rw (le-ltb _ _ ge, m, t, one-add (width x), bb)
 
+-- a number that was read fits eight bytes
+number-fits : (b : List ℕ) (v k : ℕ) → Bytes b → number b ≡ num v k → v < 2 ^ 64
+unfolding number width
+number-fits [] v k h e = absurd (unreadable-num e)
+number-fits (x ∷ bs) v k h e = go (shape x bs v k e)
+  where
+    go : Shape x bs v k → v < 2 ^ 64
+    go (one a p q) = omega arith
+    go (many a p q r t) =
+        let lx : length (take (width x) bs) ≡ width x = length-take-le (width x) bs p in
+        let hi : v < 256 ^ width x = rw q (rw lx at (big-lt (take (width x) bs) (bytes-take (width x) bs (λ i. h (suc i))))) in
+        three (λ y. v < 256 ^ width y → v < 2 ^ 64) (λ u. omega arith) (λ u. omega arith) (λ u. u) x a (h 0) hi
+
 -- ---- an element
 
 element-typed : (b : List ℕ) (t k : ℕ) → number b ≡ num t k → element b ≡ typed b (num t k)
@@ -149,9 +162,19 @@ whole-bytes b {h} {e} {r} by w =
     simp append-assoc
     ((λ i. nt i ++ (nl i ++ (ei i ++ dr i))) ∙ rw (take-append-drop n (drop j (drop k b)), take-append-drop j (drop k b), take-append-drop k b))
 
+module _ (b : List ℕ) {h : ℕ} {e : Element} {r : List ℕ} (by : Bytes b) (p : element b ≡ first h e r) where
+  -- an element that was read has an encoding, and it is the bytes that it was read from
+  pub element-bytes : elementBytes e ++ r ≡ b
+  element-bytes = whole-bytes b by (element-whole b h e r p)
+
+  pub element-fits : InRange e
+  element-fits =
+      let w = element-whole b h e r p in
+      record { type-ok = w .ok; length-ok = rw (w .inside-length) (number-fits (drop (w .type-size) b) (w .size) (w .length-size) (bytes-drop (w .type-size) b by) (w .sized-is)) }
+
 -- an element that was read takes as many bytes as its encoding
 pub element-size : (b : List ℕ) {h : ℕ} {e : Element} {r : List ℕ} → Bytes b → element b ≡ first h e r → length (elementBytes e) + length r ≡ length b
-element-size b {h} {e} {r} by p = sym (length-append (elementBytes e) r) ∙ ap length (whole-bytes b by (element-whole b h e r p))
+element-size b {h} {e} {r} by p = sym (length-append (elementBytes e) r) ∙ ap length (element-bytes b by p)
 
 pub step-size : {s : List ℕ} {at kind start stop : ℕ} {n : Place} → Bytes s → (f : Step s at kind start stop n)
     → length (elementBytes (record { type = kind; inside = take (stop - start) (drop start s) })) ≡ stop - at

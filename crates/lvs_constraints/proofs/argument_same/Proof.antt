@@ -13,17 +13,17 @@ argument-of-requires c κs = search needs
 enum-known-start : tie.Need-enum-known-start
 enum-known-start c = search needs
 
-sub-same-component : tie.Need-sub-same-component
-sub-same-component c = subst (ArgumentAt _) (c .before .start .given .1) (c .before .before .before .argument-of .ensures) .order
+sub-begins-with : tie.Need-sub-begins-with
+sub-begins-with c = subst (ArgumentAt _) (c .before .start .given .1) (c .before .before .before .argument-of .ensures) .order
 
-part-same-component-start : tie.Need-part-same-component-start
-part-same-component-start c = subst (ArgumentAt _) (c .before .start .given .1) (c .before .before .before .argument-of .ensures) .order
+part-begins-with-start : tie.Need-part-begins-with-start
+part-begins-with-start c = subst (ArgumentAt _) (c .before .start .given .1) (c .before .before .before .argument-of .ensures) .order
 
-part-same-component-end : tie.Need-part-same-component-end
-part-same-component-end c = subst (ArgumentAt _) (c .before .start .given .1) (c .before .before .before .argument-of .ensures) .within
+part-begins-with-end : tie.Need-part-begins-with-end
+part-begins-with-end c = subst (ArgumentAt _) (c .before .start .given .1) (c .before .before .before .argument-of .ensures) .within
 
-same-component-requires : tie.Need-same-component-requires
-same-component-requires c κs = search needs
+begins-with-requires : tie.Need-begins-with-requires
+begins-with-requires c κs = search needs
 
 enum-known-tag : tie.Need-enum-known-tag
 enum-known-tag c = search needs
@@ -33,7 +33,7 @@ bound-same-requires c κs = search needs
 
 returns : tie.Need-returns
 unfolding argumentIn
-returns c = c .same-component .ensures ∙ sym (rw (subst (ArgumentAt _) (c .before .before .before .start .given .1) (c .before .before .before .before .before .argument-of .ensures) .is))
+returns c = c .begins-with .ensures ∙ sym (rw (subst (ArgumentAt _) (c .before .before .before .start .given .1) (c .before .before .before .before .before .argument-of .ensures) .is))
 
 returns-2 : tie.Need-returns-2
 returns-2 c = c .bound-same .ensures ∙ bound-argument _ _ _ ∙ sym (rw (subst (ArgumentAt _) (c .before .before .tag .given .1) (c .before .before .before .before .argument-of .ensures)))
@@ -44,10 +44,10 @@ argument-same-spec =
     (tie.spec
     argument-of-requires
     enum-known-start
-    sub-same-component
-    part-same-component-start
-    part-same-component-end
-    same-component-requires
+    sub-begins-with
+    part-begins-with-start
+    part-begins-with-end
+    begins-with-requires
     enum-known-tag
     bound-same-requires
     returns

@@ -17,11 +17,11 @@ cast-text-from c = search needs
 text-from-requires : tie.Need-text-from-requires
 text-from-requires c κs = search needs
 
-same-component-requires : tie.Need-same-component-requires
-same-component-requires c κs = search needs
+begins-with-requires : tie.Need-begins-with-requires
+begins-with-requires c κs = search needs
 
 returns-2 : tie.Need-returns-2
-returns-2 c = c .same-component .ensures ∙ rw (c .before .text-from .ensures) (sym (bound-argument _ _ _ ∙ tag-some (c .before .before .before .before .before .slot-of .ensures) (c .before .before .before .before .before .before .before .before .before .before .args .packet .now) (c .before .before .before .before .before .before .before .before .before .before .args .key .now) _ (c .before .before .before .if1 .left)))
+returns-2 c = c .begins-with .ensures ∙ rw (c .before .text-from .ensures) (sym (bound-argument _ _ _ ∙ tag-some (c .before .before .before .before .before .slot-of .ensures) (c .before .before .before .before .before .before .before .before .before .before .args .packet .now) (c .before .before .before .before .before .before .before .before .before .before .args .key .now) _ (c .before .before .before .if1 .left)))
 
 pub bound-same-spec : {M : Type 1} → statement M
 bound-same-spec =
@@ -31,5 +31,5 @@ bound-same-spec =
     returns
     cast-text-from
     text-from-requires
-    same-component-requires
+    begins-with-requires
     returns-2)

@@ -5,11 +5,11 @@ use Rattle.lvs_constraints.proofs.Holds.{term-value, term-tag, term-cal
 use Rattle.lvs_constraints.proofs.term_holds.Statement.{statement}
 use Rattle.lvs_constraints.proofs.term_holds.Tie as tie
 
-same-component-requires : tie.Need-same-component-requires
-same-component-requires c κs = search needs
+begins-with-requires : tie.Need-begins-with-requires
+begins-with-requires c κs = search needs
 
 returns : tie.Need-returns
-returns c = c .same-component .ensures ∙ sym (term-value _ _ _ _ (c .before .if1 .taken))
+returns c = c .begins-with .ensures ∙ sym (term-value _ _ _ _ (c .before .if1 .taken))
 
 number-of-requires : tie.Need-number-of-requires
 number-of-requires c κs = search needs
@@ -33,7 +33,7 @@ pub term-holds-spec : {M : Type 1} → statement M
 term-holds-spec =
     tie.close
     (tie.spec
-    same-component-requires
+    begins-with-requires
     returns
     number-of-requires
     bound-same-requires

@@ -4,13 +4,14 @@
 use Prim.Native.Nat.{ℕ, _+_, _-_, _<_}
 use native.Mathlib.Omega.{arith}
 use borrow.Author.Needs.{needs}
-use mathlib.Core.Path.{_≡_, sym, ap, _∙_}
+use mathlib.Core.Path.{_≡_, refl, sym, ap, _∙_}
 use mathlib.Core.Bool.{cond}
 use lib.ListN.{length}
 use Rattle.lvs_spec.specs.Limits.{maxNameBytes, bindingWords}
 use Rattle.lvs_spec.specs.Model.{modelOf}
 use Rattle.lvs_walk.specs.Hits.{nameFor}
-use Rattle.lvs_walk.proofs.Laws.{Turn, searchAt, ahead, name-short, text-short, has-component, no-component, begun, turn-first, end-match, end-packet, end-key, end-key-not, patterns-next, all-done, edge-is, edge-shut, edge-back, edge-found}
+use Rattle.lvs_walk.proofs.Laws.{Turn, searchAt, ahead, name-short, text-short, has-component, no-component, stands, begun, turn-first, end-match, end-packet, end-key, end-key-not, patterns-next, all-done, edge-is, edge-shut, edge-back, edge-found}
+use Rattle.lvs_walk.proofs.Places.{body-of-part}
 use borrow.Fn.Kinds.{In, Out}
 use borrow.Fn.PlainCycle.{Measures, is, falls, and}
 use Rattle.lvs_walk.proofs.walk.Reads as walk
@@ -61,11 +62,11 @@ calls t = (
 )
 
 abbrev Inv : walk-lts.InvT-loop
-Inv model places start packet key key-from goal node at slots₀ end text a b edges pattern₀ from₀ slots pattern from =
-    Turn (searchAt model packet key key-from goal node at end text slots₀) slots pattern from
+Inv model places start packet key key-from goal node at slots₀ end c text a b edges pattern₀ from₀ slots pattern from =
+    Turn (searchAt model packet key key-from goal node end text c slots₀ edges) slots pattern from
 
 abbrev μ : walk-lts.MeasureT-loop
-μ model places start packet key key-from goal node at slots₀ end text a b edges pattern₀ from₀ slots pattern from =
+μ model places start packet key key-from goal node at slots₀ end c text a b edges pattern₀ from₀ slots pattern from =
     cond pattern 0 (length edges + 1) + (length edges - from)
 
 abbrev at : (walk-lts.Claims → In 4 walk-kinds.ps → Out 4 walk-kinds.ps walk-kinds.r → walk-lts.InvT-loop → walk-lts.MeasureT-loop → Type 0) → ℕ → Type 0
@@ -94,85 +95,91 @@ walk-returns-3 t c = end-key (modelOf (c .before .before .before .before .before
 walk-returns-4 : (t : ℕ) → at walk-lts.Need-returns-4 t
 walk-returns-4 t c = end-key-not (modelOf (c .before .before .before .before .before .before .before .before .before .before .before .before .before .before .args .model .now)) (c .before .before .before .before .before .before .before .before .before .before .before .before .before .before .args .packet .now) (c .before .before .before .before .before .before .before .before .before .before .before .before .before .before .args .key .now) (c .before .before .before .before .before .before .before .before .before .before .before .before .before .before .args .key-from) (c .before .before .before .before .before .before .before .before .before .before .before .before .before .before .args .goal) (c .before .before .before .before .before .before .before .before .before .before .before .before .before .before .args .node) (c .before .before .before .before .before .before .before .before .before .before .before .before .before .before .args .at) (c .before .before .before .before .before .before .before .before .before .before .before .before .before .before .args .slots .now) (no-component (c .before .before .before .before .before .before .before .before .before .before .before .before .before .before .args .packet .now) (c .before .before .before .before .before .before .before .before .before .before .before .before .before .before .args .key .now) (c .before .before .before .before .before .before .before .before .before .before .before .before .before .before .args .goal) (c .before .before .before .before .before .before .before .before .before .before .before .before .before .before .args .at) (c .before .before .before .before .before .before .before .before .name-for .ensures) (c .before .before .before .before .before .before .before .component-at .ensures) (c .before .before .before .before .before .enum-told .given .1)) (c .before .before .before .goal .given .1) (sym (c .before .lists-node .ensures) ∙ c .if1 .left)
 
+walk-sub-c : (t : ℕ) → at walk-lts.Need-sub-c t
+walk-sub-c t c = let f = has-component (c .before .before .before .before .before .before .before .before .before .before .args .packet .now) (c .before .before .before .before .before .before .before .before .before .before .args .key .now) (c .before .before .before .before .before .before .before .before .before .before .args .goal) (c .before .before .before .before .before .before .before .before .before .before .args .at) (c .before .before .before .before .name-for .ensures) (c .before .before .before .component-at .ensures) (c .before .end .given .1) in omega (arith, f .after)
+
+walk-part-c-start : (t : ℕ) → at walk-lts.Need-part-c-start t
+walk-part-c-start t c = let f = has-component (c .before .before .before .before .before .before .before .before .before .before .args .packet .now) (c .before .before .before .before .before .before .before .before .before .before .args .key .now) (c .before .before .before .before .before .before .before .before .before .before .args .goal) (c .before .before .before .before .before .before .before .before .before .before .args .at) (c .before .before .before .before .name-for .ensures) (c .before .before .before .component-at .ensures) (c .before .end .given .1) in omega (arith, f .after)
+
+walk-part-c-end : (t : ℕ) → at walk-lts.Need-part-c-end t
+walk-part-c-end t c = let f = has-component (c .before .before .before .before .before .before .before .before .before .before .args .packet .now) (c .before .before .before .before .before .before .before .before .before .before .args .key .now) (c .before .before .before .before .before .before .before .before .before .before .args .goal) (c .before .before .before .before .before .before .before .before .before .before .args .at) (c .before .before .before .before .name-for .ensures) (c .before .before .before .component-at .ensures) (c .before .end .given .1) in rw (c .before .before .before .before .name-for .ensures) (f .within)
+
 walk-text-place-requires : (t : ℕ) → at walk-lts.Need-text-place-requires t
-walk-text-place-requires t c κs = let w = c .before .before .before .before .before .before .before .before .before .before .pre .1 .0 in
-    let f = has-component (c .before .before .before .before .before .before .before .before .before .before .args .packet .now) (c .before .before .before .before .before .before .before .before .before .before .args .key .now) (c .before .before .before .before .before .before .before .before .before .before .args .goal) (c .before .before .before .before .before .before .before .before .before .before .args .at) (c .before .before .before .before .name-for .ensures) (c .before .before .before .component-at .ensures) (c .before .end .given .1) in
-    let n = name-short (c .before .before .before .before .before .before .before .before .before .before .args .packet .now) (c .before .before .before .before .before .before .before .before .before .before .args .key .now) (c .before .before .before .before .before .before .before .before .before .before .args .goal) maxNameBytes (w .packet-short) (w .key-short) in
+walk-text-place-requires t c κs = let w = c .before .before .before .before .before .before .before .before .before .before .before .pre .1 .0 in
+    let f = has-component (c .before .before .before .before .before .before .before .before .before .before .before .args .packet .now) (c .before .before .before .before .before .before .before .before .before .before .before .args .key .now) (c .before .before .before .before .before .before .before .before .before .before .before .args .goal) (c .before .before .before .before .before .before .before .before .before .before .before .args .at) (c .before .before .before .before .before .name-for .ensures) (c .before .before .before .before .component-at .ensures) (c .before .before .end .given .1) in
+    let n = name-short (c .before .before .before .before .before .before .before .before .before .before .before .args .packet .now) (c .before .before .before .before .before .before .before .before .before .before .before .args .key .now) (c .before .before .before .before .before .before .before .before .before .before .before .args .goal) maxNameBytes (w .packet-short) (w .key-short) in
     omega arith
 
 walk-node-part-requires : (t : ℕ) → at walk-lts.Need-node-part-requires t
-walk-node-part-requires t c κs = c .before .before .before .before .before .before .before .before .before .before .before .pre .1 .0 .nodes
+walk-node-part-requires t c κs = c .before .before .before .before .before .before .before .before .before .before .before .before .pre .1 .0 .nodes .room
 
 walk-sub-edges : (t : ℕ) → at walk-lts.Need-sub-edges t
-walk-sub-edges t c = c .node-part .ensures .order
+walk-sub-edges t c = body-of-part (c .before .before .before .before .before .before .before .before .before .before .before .before .before .pre .1 .0 .nodes) (c .node-part .ensures) .order
 
 walk-part-edges-start : (t : ℕ) → at walk-lts.Need-part-edges-start t
-walk-part-edges-start t c = c .node-part .ensures .order
+walk-part-edges-start t c = body-of-part (c .before .before .before .before .before .before .before .before .before .before .before .before .before .pre .1 .0 .nodes) (c .node-part .ensures) .order
 
 walk-part-edges-end : (t : ℕ) → at walk-lts.Need-part-edges-end t
-walk-part-edges-end t c = c .node-part .ensures .within
+walk-part-edges-end t c = body-of-part (c .before .before .before .before .before .before .before .before .before .before .before .before .before .pre .1 .0 .nodes) (c .node-part .ensures) .within
 
 walk-loop-holds : (t : ℕ) → at walk-lts.Need-loop-holds t
-walk-loop-holds t c = turn-first _
+walk-loop-holds t c = turn-first _ (body-of-part (c .before .before .before .before .before .before .before .before .before .before .before .before .before .before .pre .1 .0 .nodes) (c .before .node-part .ensures) .is)
 
 walk-same-length-2 : (t : ℕ) → at walk-lts.Need-same-length-2 t
 walk-same-length-2 t c = ap length (c .before .before .before .before .loop .inv .kept)
 
 walk-returns-5 : (t : ℕ) → at walk-lts.Need-returns-5 t
-walk-returns-5 t c = begun (c .before .before .before .before .before .before .before .before .before .before .before .before .before .before .before .before .before .before .args .model .now) (c .before .before .before .before .before .before .before .before .before .before .before .before .before .before .before .before .before .before .args .packet .now) (c .before .before .before .before .before .before .before .before .before .before .before .before .before .before .before .before .before .before .args .key .now) (c .before .before .before .before .before .before .before .before .before .before .before .before .before .before .before .before .before .before .args .key-from) (c .before .before .before .before .before .before .before .before .before .before .before .before .before .before .before .before .before .before .args .goal) (c .before .before .before .before .before .before .before .before .before .before .before .before .before .before .before .before .before .before .args .node) (c .before .before .before .before .before .before .before .before .before .before .before .before .before .before .before .before .before .before .args .slots .now) (c .before .before .before .before .before .before .before .text-place .ensures) (has-component (c .before .before .before .before .before .before .before .before .before .before .before .before .before .before .before .before .before .before .args .packet .now) (c .before .before .before .before .before .before .before .before .before .before .before .before .before .before .before .before .before .before .args .key .now) (c .before .before .before .before .before .before .before .before .before .before .before .before .before .before .before .before .before .before .args .goal) (c .before .before .before .before .before .before .before .before .before .before .before .before .before .before .before .before .before .before .args .at) (c .before .before .before .before .before .before .before .before .before .before .before .before .name-for .ensures) (c .before .before .before .before .before .before .before .before .before .before .before .component-at .ensures) (c .before .before .before .before .before .before .before .before .before .end .given .1)) (all-done (c .before .before .before .before .before .before .node-part .ensures .is) (c .before .before .before .before .loop .inv) (c .before .before .before .edge-from .ensures) (c .before .enum-told4 .given .1) (c .if2 .taken))
+walk-returns-5 t c = begun (c .before .before .before .before .before .before .before .before .before .before .before .before .before .before .before .before .before .before .before .args .packet .now) (c .before .before .before .before .before .before .before .before .before .before .before .before .before .before .before .before .before .before .before .args .key .now) (c .before .before .before .before .before .before .before .before .before .before .before .before .before .before .before .before .before .before .before .args .goal) (c .before .before .before .before .before .before .before .before .before .before .before .before .before .name-for .ensures) refl (c .before .before .before .before .before .before .before .text-place .ensures) (has-component (c .before .before .before .before .before .before .before .before .before .before .before .before .before .before .before .before .before .before .before .args .packet .now) (c .before .before .before .before .before .before .before .before .before .before .before .before .before .before .before .before .before .before .before .args .key .now) (c .before .before .before .before .before .before .before .before .before .before .before .before .before .before .before .before .before .before .before .args .goal) (c .before .before .before .before .before .before .before .before .before .before .before .before .before .before .before .before .before .before .before .args .at) (c .before .before .before .before .before .before .before .before .before .before .before .before .before .name-for .ensures) (c .before .before .before .before .before .before .before .before .before .before .before .before .component-at .ensures) (c .before .before .before .before .before .before .before .before .before .before .end .given .1)) (c .before .before .before .before .before .before .before .before .before .before .before .before .before .before .before .before .before .before .before .args .model .now) (c .before .before .before .before .before .before .before .before .before .before .before .before .before .before .before .before .before .before .before .args .key-from) (c .before .before .before .before .before .before .before .before .before .before .before .before .before .before .before .before .before .before .before .args .node) (c .before .before .before .before .before .before .before .before .before .before .before .before .before .before .before .before .before .before .before .args .slots .now) (all-done (c .before .before .before .before .loop .inv) (c .before .before .before .edge-from .ensures) (c .before .enum-told4 .given .1) (c .if2 .taken))
 
 walk-loop-less : (t : ℕ) → at walk-lts.Need-loop-less t
 walk-loop-less t c = rw (c .if2 .left) (omega arith)
 
 walk-loop-again : (t : ℕ) → at walk-lts.Need-loop-again t
-walk-loop-again t c = patterns-next (c .before .before .before .before .before .before .node-part .ensures .is) (c .before .before .before .before .loop .inv) (c .before .before .before .edge-from .ensures) (c .before .enum-told4 .given .1) (c .if2 .left)
+walk-loop-again t c = patterns-next (c .before .before .before .before .loop .inv) (c .before .before .before .edge-from .ensures) (c .before .enum-told4 .given .1) (c .if2 .left)
 
 walk-sub-cross : (t : ℕ) → at walk-lts.Need-sub-cross t
-walk-sub-cross t c = edge-is (c .before .before .before .before .before .before .node-part .ensures .is) (c .before .before .before .before .loop .inv) (c .before .before .before .edge-from .ensures) (c .before .p .given .1) .order
+walk-sub-cross t c = edge-is (c .before .before .before .before .loop .inv) (c .before .before .before .edge-from .ensures) (c .before .p .given .1) .order
 
 walk-part-cross-start : (t : ℕ) → at walk-lts.Need-part-cross-start t
-walk-part-cross-start t c = edge-is (c .before .before .before .before .before .before .node-part .ensures .is) (c .before .before .before .before .loop .inv) (c .before .before .before .edge-from .ensures) (c .before .p .given .1) .order
+walk-part-cross-start t c = edge-is (c .before .before .before .before .loop .inv) (c .before .before .before .edge-from .ensures) (c .before .p .given .1) .order
 
 walk-part-cross-end : (t : ℕ) → at walk-lts.Need-part-cross-end t
-walk-part-cross-end t c = edge-is (c .before .before .before .before .before .before .node-part .ensures .is) (c .before .before .before .before .loop .inv) (c .before .before .before .edge-from .ensures) (c .before .p .given .1) .within
-
-walk-sub-cross-2 : (t : ℕ) → at walk-lts.Need-sub-cross-2 t
-walk-sub-cross-2 t c = let f = has-component (c .before .before .before .before .before .before .before .before .before .before .before .before .before .before .before .before .before .before .before .args .packet .now) (c .before .before .before .before .before .before .before .before .before .before .before .before .before .before .before .before .before .before .before .args .key .now) (c .before .before .before .before .before .before .before .before .before .before .before .before .before .before .before .before .before .before .before .args .goal) (c .before .before .before .before .before .before .before .before .before .before .before .before .before .before .before .before .before .before .before .args .at) (c .before .before .before .before .before .before .before .before .before .before .before .before .before .name-for .ensures) (c .before .before .before .before .before .before .before .before .before .before .before .before .component-at .ensures) (c .before .before .before .before .before .before .before .before .before .before .end .given .1) in omega (arith, f .after)
+walk-part-cross-end t c = edge-is (c .before .before .before .before .loop .inv) (c .before .before .before .edge-from .ensures) (c .before .p .given .1) .within
 
 walk-cross-requires : (t : ℕ) → at walk-lts.Need-cross-requires t
-walk-cross-requires t c κs = let w = c .before .before .before .before .before .before .before .before .before .before .before .before .before .before .before .before .before .before .before .before .pre .1 .0 in
-    let f = has-component (c .before .before .before .before .before .before .before .before .before .before .before .before .before .before .before .before .before .before .before .before .args .packet .now) (c .before .before .before .before .before .before .before .before .before .before .before .before .before .before .before .before .before .before .before .before .args .key .now) (c .before .before .before .before .before .before .before .before .before .before .before .before .before .before .before .before .before .before .before .before .args .goal) (c .before .before .before .before .before .before .before .before .before .before .before .before .before .before .before .before .before .before .before .before .args .at) (c .before .before .before .before .before .before .before .before .before .before .before .before .before .before .name-for .ensures) (c .before .before .before .before .before .before .before .before .before .before .before .before .before .component-at .ensures) (c .before .before .before .before .before .before .before .before .before .before .before .end .given .1) in
-    let n = name-short (c .before .before .before .before .before .before .before .before .before .before .before .before .before .before .before .before .before .before .before .before .args .packet .now) (c .before .before .before .before .before .before .before .before .before .before .before .before .before .before .before .before .before .before .before .before .args .key .now) (c .before .before .before .before .before .before .before .before .before .before .before .before .before .before .before .before .before .before .before .before .args .goal) maxNameBytes (w .packet-short) (w .key-short) in
-    let x = text-short (c .before .before .before .before .before .before .before .before .before .before .before .before .before .before .before .before .before .before .before .before .args .packet .now) (c .before .before .before .before .before .before .before .before .before .before .before .before .before .before .before .before .before .before .before .before .args .goal) (c .before .before .before .before .before .before .before .before .before .before .before .before .before .before .before .before .before .before .before .before .args .at) maxNameBytes (w .packet-short) (omega (arith, f .after, f .within)) in
-    (ap length (c .before .before .before .before .before .before .loop .inv .kept) ∙ w .room, (omega (arith, c .before .before .before .before .before .before .before .before .before .text-place .ensures), omega (arith, f .within), omega (arith, f .after)))
+walk-cross-requires t c κs = let w = c .before .before .before .before .before .before .before .before .before .before .before .before .before .before .before .before .before .before .before .before .before .pre .1 .0 in
+    let f = has-component (c .before .before .before .before .before .before .before .before .before .before .before .before .before .before .before .before .before .before .before .before .before .args .packet .now) (c .before .before .before .before .before .before .before .before .before .before .before .before .before .before .before .before .before .before .before .before .before .args .key .now) (c .before .before .before .before .before .before .before .before .before .before .before .before .before .before .before .before .before .before .before .before .before .args .goal) (c .before .before .before .before .before .before .before .before .before .before .before .before .before .before .before .before .before .before .before .before .before .args .at) (c .before .before .before .before .before .before .before .before .before .before .before .before .before .before .before .name-for .ensures) (c .before .before .before .before .before .before .before .before .before .before .before .before .before .before .component-at .ensures) (c .before .before .before .before .before .before .before .before .before .before .before .before .end .given .1) in
+    let n = name-short (c .before .before .before .before .before .before .before .before .before .before .before .before .before .before .before .before .before .before .before .before .before .args .packet .now) (c .before .before .before .before .before .before .before .before .before .before .before .before .before .before .before .before .before .before .before .before .before .args .key .now) (c .before .before .before .before .before .before .before .before .before .before .before .before .before .before .before .before .before .before .before .before .before .args .goal) maxNameBytes (w .packet-short) (w .key-short) in
+    let x = text-short (c .before .before .before .before .before .before .before .before .before .before .before .before .before .before .before .before .before .before .before .before .before .args .packet .now) (c .before .before .before .before .before .before .before .before .before .before .before .before .before .before .before .before .before .before .before .before .before .args .goal) (c .before .before .before .before .before .before .before .before .before .before .before .before .before .before .before .before .before .before .before .before .before .args .at) maxNameBytes (w .packet-short) (omega (arith, f .after, f .within)) in
+    (ap length (c .before .before .before .before .before .before .loop .inv .kept) ∙ w .room, stands (c .before .before .before .before .before .before .before .before .before .before .before .before .before .before .before .before .before .before .before .before .before .args .packet .now) (c .before .before .before .before .before .before .before .before .before .before .before .before .before .before .before .before .before .before .before .before .before .args .key .now) (c .before .before .before .before .before .before .before .before .before .before .before .before .before .before .before .before .before .before .before .before .before .args .goal) (c .before .before .before .before .before .before .before .before .before .before .before .before .before .before .before .name-for .ensures) refl (c .before .before .before .before .before .before .before .before .before .text-place .ensures) f (omega (arith, c .before .before .before .before .before .before .before .before .before .text-place .ensures)) (omega (arith, f .within)))
 
 walk-loop-less-2 : (t : ℕ) → at walk-lts.Need-loop-less-2 t
-walk-loop-less-2 t c = let e = edge-is (c .before .before .before .before .before .before .before .before .before .before .before .before .before .node-part .ensures .is) (c .before .before .before .before .before .before .before .before .before .before .before .loop .inv) (c .before .before .before .before .before .before .before .before .before .before .edge-from .ensures) (c .before .before .before .before .before .before .before .before .p .given .1) in omega (arith, e .moved, e .behind)
+walk-loop-less-2 t c = let e = edge-is (c .before .before .before .before .before .before .before .before .before .before .before .loop .inv) (c .before .before .before .before .before .before .before .before .before .before .edge-from .ensures) (c .before .before .before .before .before .before .before .before .p .given .1) in omega (arith, e .moved, e .behind)
 
 walk-loop-again-2 : (t : ℕ) → at walk-lts.Need-loop-again-2 t
-walk-loop-again-2 t c = edge-shut (c .before .before .before .before .before .before .before .before .before .before .before .before .before .node-part .ensures .is) (c .before .before .before .before .before .before .before .before .before .before .before .loop .inv) (c .before .before .before .before .before .before .before .before .before .before .edge-from .ensures) (c .before .before .before .before .before .before .before .before .p .given .1) (c .before .before .before .before .cross .ensures) (c .enum-told5 .given .1)
+walk-loop-again-2 t c = edge-shut (c .before .before .before .before .before .before .before .before .before .before .before .loop .inv) (c .before .before .before .before .before .before .before .before .before .before .edge-from .ensures) (c .before .before .before .before .before .before .before .before .p .given .1) (c .before .before .before .before .cross .ensures) (c .enum-told5 .given .1)
 
 walk-walk-requires-2 : (t : ℕ) → at walk-lts.Need-walk-requires-2 t
-walk-walk-requires-2 t c κs = let w = c .before .before .before .before .before .before .before .before .before .before .before .before .before .before .before .before .before .before .before .before .before .before .before .before .before .before .before .pre .1 .0 in
-    let f = has-component (c .before .before .before .before .before .before .before .before .before .before .before .before .before .before .before .before .before .before .before .before .before .before .before .before .before .before .before .args .packet .now) (c .before .before .before .before .before .before .before .before .before .before .before .before .before .before .before .before .before .before .before .before .before .before .before .before .before .before .before .args .key .now) (c .before .before .before .before .before .before .before .before .before .before .before .before .before .before .before .before .before .before .before .before .before .before .before .before .before .before .before .args .goal) (c .before .before .before .before .before .before .before .before .before .before .before .before .before .before .before .before .before .before .before .before .before .before .before .before .before .before .before .args .at) (c .before .before .before .before .before .before .before .before .before .before .before .before .before .before .before .before .before .before .before .before .before .name-for .ensures) (c .before .before .before .before .before .before .before .before .before .before .before .before .before .before .before .before .before .before .before .before .component-at .ensures) (c .before .before .before .before .before .before .before .before .before .before .before .before .before .before .before .before .before .before .end .given .1) in
+walk-walk-requires-2 t c κs = let w = c .before .before .before .before .before .before .before .before .before .before .before .before .before .before .before .before .before .before .before .before .before .before .before .before .before .before .before .before .pre .1 .0 in
+    let f = has-component (c .before .before .before .before .before .before .before .before .before .before .before .before .before .before .before .before .before .before .before .before .before .before .before .before .before .before .before .before .args .packet .now) (c .before .before .before .before .before .before .before .before .before .before .before .before .before .before .before .before .before .before .before .before .before .before .before .before .before .before .before .before .args .key .now) (c .before .before .before .before .before .before .before .before .before .before .before .before .before .before .before .before .before .before .before .before .before .before .before .before .before .before .before .before .args .goal) (c .before .before .before .before .before .before .before .before .before .before .before .before .before .before .before .before .before .before .before .before .before .before .before .before .before .before .before .before .args .at) (c .before .before .before .before .before .before .before .before .before .before .before .before .before .before .before .before .before .before .before .before .before .before .name-for .ensures) (c .before .before .before .before .before .before .before .before .before .before .before .before .before .before .before .before .before .before .before .before .before .component-at .ensures) (c .before .before .before .before .before .before .before .before .before .before .before .before .before .before .before .before .before .before .before .end .given .1) in
     let l : _ ≡ bindingWords = c .before .before .before .before .before .before .cross .kept .1 .1 .1 .1 .1 .1 .0 ∙ ap length (c .before .before .before .before .before .before .before .before .before .before .before .before .before .loop .inv .kept) ∙ w .room in
-    (omega (arith, c .before .before .before .before .before .before .before .before .before .before .before .before .before .before .before .before .before .before .before .before .before .before .before .before .before .before .before .pre .0, f .after, f .within), (record { nodes = w .nodes; packet-short = w .packet-short; key-short = w .key-short; room = l }, c .before .before .before .before .before .before .before .before .before .before .before .before .before .before .before .before .before .before .before .before .before .before .before .before .before .before .before .pre .1 .1))
+    (omega (arith, c .before .before .before .before .before .before .before .before .before .before .before .before .before .before .before .before .before .before .before .before .before .before .before .before .before .before .before .before .pre .0, f .after, f .within), (record { nodes = w .nodes; packet-short = w .packet-short; key-short = w .key-short; room = l }, c .before .before .before .before .before .before .before .before .before .before .before .before .before .before .before .before .before .before .before .before .before .before .before .before .before .before .before .before .pre .1 .1))
 
 walk-same-length-3 : (t : ℕ) → at walk-lts.Need-same-length-3 t
 walk-same-length-3 t c = c .before .before .before .before .walk2 .kept .1 .1 .1 .1 .1 .1 .1 .1 .1 .0 ∙ c .before .before .before .before .before .before .before .before .before .before .before .cross .kept .1 .1 .1 .1 .1 .1 .0 ∙ ap length (c .before .before .before .before .before .before .before .before .before .before .before .before .before .before .before .before .before .before .loop .inv .kept)
 
 walk-returns-6 : (t : ℕ) → at walk-lts.Need-returns-6 t
-walk-returns-6 t c = begun (c .before .before .before .before .before .before .before .before .before .before .before .before .before .before .before .before .before .before .before .before .before .before .before .before .before .before .before .before .before .before .before .before .args .model .now) (c .before .before .before .before .before .before .before .before .before .before .before .before .before .before .before .before .before .before .before .before .before .before .before .before .before .before .before .before .before .before .before .before .args .packet .now) (c .before .before .before .before .before .before .before .before .before .before .before .before .before .before .before .before .before .before .before .before .before .before .before .before .before .before .before .before .before .before .before .before .args .key .now) (c .before .before .before .before .before .before .before .before .before .before .before .before .before .before .before .before .before .before .before .before .before .before .before .before .before .before .before .before .before .before .before .before .args .key-from) (c .before .before .before .before .before .before .before .before .before .before .before .before .before .before .before .before .before .before .before .before .before .before .before .before .before .before .before .before .before .before .before .before .args .goal) (c .before .before .before .before .before .before .before .before .before .before .before .before .before .before .before .before .before .before .before .before .before .before .before .before .before .before .before .before .before .before .before .before .args .node) (c .before .before .before .before .before .before .before .before .before .before .before .before .before .before .before .before .before .before .before .before .before .before .before .before .before .before .before .before .before .before .before .before .args .slots .now) (c .before .before .before .before .before .before .before .before .before .before .before .before .before .before .before .before .before .before .before .before .before .text-place .ensures) (has-component (c .before .before .before .before .before .before .before .before .before .before .before .before .before .before .before .before .before .before .before .before .before .before .before .before .before .before .before .before .before .before .before .before .args .packet .now) (c .before .before .before .before .before .before .before .before .before .before .before .before .before .before .before .before .before .before .before .before .before .before .before .before .before .before .before .before .before .before .before .before .args .key .now) (c .before .before .before .before .before .before .before .before .before .before .before .before .before .before .before .before .before .before .before .before .before .before .before .before .before .before .before .before .before .before .before .before .args .goal) (c .before .before .before .before .before .before .before .before .before .before .before .before .before .before .before .before .before .before .before .before .before .before .before .before .before .before .before .before .before .before .before .before .args .at) (c .before .before .before .before .before .before .before .before .before .before .before .before .before .before .before .before .before .before .before .before .before .before .before .before .before .before .name-for .ensures) (c .before .before .before .before .before .before .before .before .before .before .before .before .before .before .before .before .before .before .before .before .before .before .before .before .before .component-at .ensures) (c .before .before .before .before .before .before .before .before .before .before .before .before .before .before .before .before .before .before .before .before .before .before .before .end .given .1)) (edge-found (c .before .before .before .before .before .before .before .before .before .before .before .before .before .before .before .before .before .before .before .before .node-part .ensures .is) (c .before .before .before .before .before .before .before .before .before .before .before .before .before .before .before .before .before .before .loop .inv) (c .before .before .before .before .before .before .before .before .before .before .before .before .before .before .before .before .before .edge-from .ensures) (c .before .before .before .before .before .before .before .before .before .before .before .before .before .before .before .p .given .1) (c .before .before .before .before .before .before .before .before .before .before .before .cross .ensures) (c .before .before .before .before .before .before .before .dest .given .1) (c .before .before .before .before .walk2 .ensures) (c .enum-told6 .given .1))
+walk-returns-6 t c = begun (c .before .before .before .before .before .before .before .before .before .before .before .before .before .before .before .before .before .before .before .before .before .before .before .before .before .before .before .before .before .before .before .before .before .args .packet .now) (c .before .before .before .before .before .before .before .before .before .before .before .before .before .before .before .before .before .before .before .before .before .before .before .before .before .before .before .before .before .before .before .before .before .args .key .now) (c .before .before .before .before .before .before .before .before .before .before .before .before .before .before .before .before .before .before .before .before .before .before .before .before .before .before .before .before .before .before .before .before .before .args .goal) (c .before .before .before .before .before .before .before .before .before .before .before .before .before .before .before .before .before .before .before .before .before .before .before .before .before .before .before .name-for .ensures) refl (c .before .before .before .before .before .before .before .before .before .before .before .before .before .before .before .before .before .before .before .before .before .text-place .ensures) (has-component (c .before .before .before .before .before .before .before .before .before .before .before .before .before .before .before .before .before .before .before .before .before .before .before .before .before .before .before .before .before .before .before .before .before .args .packet .now) (c .before .before .before .before .before .before .before .before .before .before .before .before .before .before .before .before .before .before .before .before .before .before .before .before .before .before .before .before .before .before .before .before .before .args .key .now) (c .before .before .before .before .before .before .before .before .before .before .before .before .before .before .before .before .before .before .before .before .before .before .before .before .before .before .before .before .before .before .before .before .before .args .goal) (c .before .before .before .before .before .before .before .before .before .before .before .before .before .before .before .before .before .before .before .before .before .before .before .before .before .before .before .before .before .before .before .before .before .args .at) (c .before .before .before .before .before .before .before .before .before .before .before .before .before .before .before .before .before .before .before .before .before .before .before .before .before .before .before .name-for .ensures) (c .before .before .before .before .before .before .before .before .before .before .before .before .before .before .before .before .before .before .before .before .before .before .before .before .before .before .component-at .ensures) (c .before .before .before .before .before .before .before .before .before .before .before .before .before .before .before .before .before .before .before .before .before .before .before .before .end .given .1)) (c .before .before .before .before .before .before .before .before .before .before .before .before .before .before .before .before .before .before .before .before .before .before .before .before .before .before .before .before .before .before .before .before .before .args .model .now) (c .before .before .before .before .before .before .before .before .before .before .before .before .before .before .before .before .before .before .before .before .before .before .before .before .before .before .before .before .before .before .before .before .before .args .key-from) (c .before .before .before .before .before .before .before .before .before .before .before .before .before .before .before .before .before .before .before .before .before .before .before .before .before .before .before .before .before .before .before .before .before .args .node) (c .before .before .before .before .before .before .before .before .before .before .before .before .before .before .before .before .before .before .before .before .before .before .before .before .before .before .before .before .before .before .before .before .before .args .slots .now) (edge-found (c .before .before .before .before .before .before .before .before .before .before .before .before .before .before .before .before .before .before .loop .inv) (c .before .before .before .before .before .before .before .before .before .before .before .before .before .before .before .before .before .edge-from .ensures) (c .before .before .before .before .before .before .before .before .before .before .before .before .before .before .before .p .given .1) (c .before .before .before .before .before .before .before .before .before .before .before .cross .ensures) (c .before .before .before .before .before .before .before .dest .given .1) (c .before .before .before .before .walk2 .ensures) (c .enum-told6 .given .1))
 
 walk-put-back-requires : (t : ℕ) → at walk-lts.Need-put-back-requires t
-walk-put-back-requires t c κs = let l : _ ≡ bindingWords = c .before .before .before .before .before .walk2 .kept .1 .1 .1 .1 .1 .1 .1 .1 .1 .0 ∙ c .before .before .before .before .before .before .before .before .before .before .before .before .cross .kept .1 .1 .1 .1 .1 .1 .0 ∙ ap length (c .before .before .before .before .before .before .before .before .before .before .before .before .before .before .before .before .before .before .before .loop .inv .kept) ∙ c .before .before .before .before .before .before .before .before .before .before .before .before .before .before .before .before .before .before .before .before .before .before .before .before .before .before .before .before .before .before .before .before .before .pre .1 .0 .room in
+walk-put-back-requires t c κs = let l : _ ≡ bindingWords = c .before .before .before .before .before .walk2 .kept .1 .1 .1 .1 .1 .1 .1 .1 .1 .0 ∙ c .before .before .before .before .before .before .before .before .before .before .before .before .cross .kept .1 .1 .1 .1 .1 .1 .0 ∙ ap length (c .before .before .before .before .before .before .before .before .before .before .before .before .before .before .before .before .before .before .before .loop .inv .kept) ∙ c .before .before .before .before .before .before .before .before .before .before .before .before .before .before .before .before .before .before .before .before .before .before .before .before .before .before .before .before .before .before .before .before .before .before .pre .1 .0 .room in
     (rw (c .before .before .before .before .before .before .before .before .dest .given .1) at (c .before .before .before .before .before .before .before .before .before .before .before .before .cross .ensures .low), l)
 
 walk-loop-less-3 : (t : ℕ) → at walk-lts.Need-loop-less-3 t
-walk-loop-less-3 t c = let e = edge-is (c .before .before .before .before .before .before .before .before .before .before .before .before .before .before .before .before .before .before .before .before .before .before .before .before .node-part .ensures .is) (c .before .before .before .before .before .before .before .before .before .before .before .before .before .before .before .before .before .before .before .before .before .before .loop .inv) (c .before .before .before .before .before .before .before .before .before .before .before .before .before .before .before .before .before .before .before .before .before .edge-from .ensures) (c .before .before .before .before .before .before .before .before .before .before .before .before .before .before .before .before .before .before .before .p .given .1) in omega (arith, e .moved, e .behind)
+walk-loop-less-3 t c = let e = edge-is (c .before .before .before .before .before .before .before .before .before .before .before .before .before .before .before .before .before .before .before .before .before .before .loop .inv) (c .before .before .before .before .before .before .before .before .before .before .before .before .before .before .before .before .before .before .before .before .before .edge-from .ensures) (c .before .before .before .before .before .before .before .before .before .before .before .before .before .before .before .before .before .before .before .p .given .1) in omega (arith, e .moved, e .behind)
 
 walk-loop-again-3 : (t : ℕ) → at walk-lts.Need-loop-again-3 t
-walk-loop-again-3 t c = edge-back (c .before .before .before .before .before .before .before .before .before .before .before .before .before .before .before .before .before .before .before .before .before .before .before .before .node-part .ensures .is) (c .before .before .before .before .before .before .before .before .before .before .before .before .before .before .before .before .before .before .before .before .before .before .loop .inv) (c .before .before .before .before .before .before .before .before .before .before .before .before .before .before .before .before .before .before .before .before .before .edge-from .ensures) (c .before .before .before .before .before .before .before .before .before .before .before .before .before .before .before .before .before .before .before .p .given .1) (c .before .before .before .before .before .before .before .before .before .before .before .before .before .before .before .cross .ensures) (c .before .before .before .before .before .before .before .before .before .before .before .dest .given .1) (c .before .before .before .before .before .before .before .before .walk2 .ensures) (c .before .before .before .before .enum-told7 .given .1) (c .before .before .put-back .ensures)
+walk-loop-again-3 t c = edge-back (c .before .before .before .before .before .before .before .before .before .before .before .before .before .before .before .before .before .before .before .before .before .before .loop .inv) (c .before .before .before .before .before .before .before .before .before .before .before .before .before .before .before .before .before .before .before .before .before .edge-from .ensures) (c .before .before .before .before .before .before .before .before .before .before .before .before .before .before .before .before .before .before .before .p .given .1) (c .before .before .before .before .before .before .before .before .before .before .before .before .before .before .before .cross .ensures) (c .before .before .before .before .before .before .before .before .before .before .before .dest .given .1) (c .before .before .before .before .before .before .before .before .walk2 .ensures) (c .before .before .before .before .enum-told7 .given .1) (c .before .before .put-back .ensures)
 
 pub +walk-spec : {M : Type 1} → statement M
 +walk-spec =
@@ -192,6 +199,9 @@ pub +walk-spec : {M : Type 1} → statement M
     (walk-returns-2 t)
     (walk-returns-3 t)
     (walk-returns-4 t)
+    (walk-sub-c t)
+    (walk-part-c-start t)
+    (walk-part-c-end t)
     (walk-text-place-requires t)
     (walk-node-part-requires t)
     (walk-sub-edges t)
@@ -208,7 +218,6 @@ pub +walk-spec : {M : Type 1} → statement M
     (walk-sub-cross t)
     (walk-part-cross-start t)
     (walk-part-cross-end t)
-    (walk-sub-cross-2 t)
     (walk-cross-requires t)
     (λ c. search needs)
     (walk-loop-less-2 t)

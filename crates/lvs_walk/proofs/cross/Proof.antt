@@ -20,7 +20,7 @@ same-length-2 : tie.Need-same-length-2
 same-length-2 c = search needs
 
 returns-2 : tie.Need-returns-2
-returns-2 c = rw (c .before .before .if1 .left) (c .cross-value .ensures (c .before .before .before .before .before .before .before .args .size))
+returns-2 c = rw (c .before .before .if1 .left) (c .cross-value .ensures (c .before .before .before .before .before .before .before .before .args .packet .now) (c .before .before .before .before .before .before .before .before .args .key .now) (c .before .before .before .before .before .before .before .before .args .at) (c .before .before .before .before .before .before .before .before .pre .1))
 
 pub cross-spec : {M : Type 1} → statement M
 cross-spec =

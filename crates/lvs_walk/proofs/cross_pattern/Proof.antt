@@ -1,35 +1,36 @@
 -- `lvs_walk::cross_pattern` meets its contract. Assumes nothing.
 use borrow.Author.Needs.{needs}
-use mathlib.Core.Path.{_≡_, refl, sym, _∙_}
 use native.Mathlib.Omega.{arith}
 use borrow.Author.Tests.{not-true, not-false}
 use lib.ListN.{length-set}
-use Rattle.lvs_spec.specs.Model.{patternEdgeOf}
 use Rattle.lvs_walk.proofs.Edges.{shut, passed, rebound, pattern-shut, pattern-bound, pattern-zero, pattern-high, pattern-binds}
+use Rattle.lvs_walk.proofs.Fields.{edge-with}
 use Rattle.lvs_walk.proofs.cross_pattern.Statement.{statement}
 use Rattle.lvs_walk.proofs.cross_pattern.Tie as tie
 
-number-in-requires : tie.Need-number-in-requires
-number-in-requires c κs = search needs
+pattern-fields-requires : tie.Need-pattern-fields-requires
+pattern-fields-requires c κs = search needs
 
 slot-of-requires : tie.Need-slot-of-requires
 slot-of-requires c κs = search needs
 
-text-from-requires : tie.Need-text-from-requires
-text-from-requires c κs = search needs
+sub-passes : tie.Need-sub-passes
+sub-passes c = search needs
+
+part-passes-start : tie.Need-part-passes-start
+part-passes-start c = search needs
+
+part-passes-end : tie.Need-part-passes-end
+part-passes-end c = search needs
 
 passes-requires : tie.Need-passes-requires
-unfolding patternEdgeOf
-passes-requires c κs = (c .before .before .before .before .before .before .before .before .before .pre .0, rw (c .before .before .before .before .number-in .ensures) at (c .before .before .slot-of .ensures))
+passes-requires c κs = search needs
 
 same-length : tie.Need-same-length
 same-length c = search needs
 
 returns : tie.Need-returns
-returns c = shut (pattern-shut (c .before .before .before .before .before .before .before .before .before .before .before .args .packet .now) (c .before .before .before .before .before .before .before .before .before .before .before .args .key .now) (c .before .before .before .before .before .before .before .before .before .before .before .args .slots .now) (c .before .before .before .before .before .before .before .before .before .before .before .args .at) (c .before .before .before .before .before .before .before .before .before .before .before .args .size) (c .before .before .before .before .before .before .before .before .before .before .before .args .s .now) (c .before .before .before .text-from .ensures) (c .before .passes .ensures) (not-true _ (c .if1 .taken)))
-
-number-in-requires-2 : tie.Need-number-in-requires-2
-number-in-requires-2 c κs = search needs
+returns c = shut (pattern-shut (c .before .before .before .before .before .before .before .before .before .before .before .before .args .packet .now) (c .before .before .before .before .before .before .before .before .before .before .before .before .args .key .now) (c .before .before .before .before .before .before .before .before .before .before .before .before .args .slots .now) (c .before .before .before .before .before .before .before .before .before .before .before .before .args .at) _ (c .before .before .before .before .before .before .before .before .before .before .before .before .args .s .now) (c .before .before .before .before .before .before .before .before .before .before .before .before .pre .1 .content) (c .before .passes .ensures _ (edge-with (c .before .before .before .before .before .before .pattern-fields .ensures) (c .before .before .before .before .slot-of .ensures))) (not-true _ (c .if1 .taken)))
 
 saved-requires : tie.Need-saved-requires
 saved-requires c κs = search needs
@@ -38,7 +39,7 @@ same-length-2 : tie.Need-same-length-2
 same-length-2 c = search needs
 
 returns-2 : tie.Need-returns-2
-returns-2 c = passed (omega arith) (c .saved .ensures) (pattern-bound (c .before .before .before .before .before .before .before .before .before .before .before .before .before .before .before .before .args .packet .now) (c .before .before .before .before .before .before .before .before .before .before .before .before .before .before .before .before .args .key .now) (c .before .before .before .before .before .before .before .before .before .before .before .before .before .before .before .before .args .slots .now) (c .before .before .before .before .before .before .before .before .before .before .before .before .before .before .before .before .args .at) (c .before .before .before .before .before .before .before .before .before .before .before .before .before .before .before .before .args .size) (c .before .before .before .before .before .before .before .before .before .before .before .before .before .before .before .before .args .s .now) (c .before .before .before .before .before .before .before .before .text-from .ensures) (c .before .before .before .before .before .before .passes .ensures) (not-false _ (c .before .before .before .before .before .if1 .left)) (c .before .before .before .before .number-in2 .ensures) (c .before .before .before .before .before .before .before .before .before .before .before .number-in .ensures) (c .before .before .before .before .before .before .before .before .before .slot-of .ensures) (c .before .before .if2 .taken))
+returns-2 c = passed (omega arith) (c .saved .ensures) (pattern-bound (c .before .before .before .before .before .before .before .before .before .before .before .before .before .before .before .before .args .packet .now) (c .before .before .before .before .before .before .before .before .before .before .before .before .before .before .before .before .args .key .now) (c .before .before .before .before .before .before .before .before .before .before .before .before .before .before .before .before .args .slots .now) (c .before .before .before .before .before .before .before .before .before .before .before .before .before .before .before .before .args .at) _ (c .before .before .before .before .before .before .before .before .before .before .before .before .before .before .before .before .args .s .now) (c .before .before .before .before .before .before .before .before .before .before .before .before .before .before .before .before .pre .1 .content) (c .before .before .before .before .before .passes .ensures _ (edge-with (c .before .before .before .before .before .before .before .before .before .before .pattern-fields .ensures) (c .before .before .before .before .before .before .before .before .slot-of .ensures))) (not-false _ (c .before .before .before .before .if1 .left)) (c .before .before .before .before .before .before .before .before .before .before .pattern-fields .ensures .destination) (c .before .before .before .before .before .before .before .before .before .before .pattern-fields .ensures .tag-is) (c .before .before .before .before .before .before .before .before .slot-of .ensures) (c .before .before .if2 .taken))
 
 saved-requires-2 : tie.Need-saved-requires-2
 saved-requires-2 c κs = search needs
@@ -47,7 +48,7 @@ same-length-3 : tie.Need-same-length-3
 same-length-3 c = search needs
 
 returns-3 : tie.Need-returns-3
-returns-3 c = passed (omega arith) (c .saved2 .ensures) (pattern-zero (c .before .before .before .before .before .before .before .before .before .before .before .before .before .before .before .before .before .args .packet .now) (c .before .before .before .before .before .before .before .before .before .before .before .before .before .before .before .before .before .args .key .now) (c .before .before .before .before .before .before .before .before .before .before .before .before .before .before .before .before .before .args .slots .now) (c .before .before .before .before .before .before .before .before .before .before .before .before .before .before .before .before .before .args .at) (c .before .before .before .before .before .before .before .before .before .before .before .before .before .before .before .before .before .args .size) (c .before .before .before .before .before .before .before .before .before .before .before .before .before .before .before .before .before .args .s .now) (c .before .before .before .before .before .before .before .before .before .text-from .ensures) (c .before .before .before .before .before .before .before .passes .ensures) (not-false _ (c .before .before .before .before .before .before .if1 .left)) (c .before .before .before .before .before .number-in2 .ensures) (c .before .before .before .before .before .before .before .before .before .before .before .before .number-in .ensures) (c .before .before .if3 .taken))
+returns-3 c = passed (omega arith) (c .saved2 .ensures) (pattern-zero (c .before .before .before .before .before .before .before .before .before .before .before .before .before .before .before .before .before .args .packet .now) (c .before .before .before .before .before .before .before .before .before .before .before .before .before .before .before .before .before .args .key .now) (c .before .before .before .before .before .before .before .before .before .before .before .before .before .before .before .before .before .args .slots .now) (c .before .before .before .before .before .before .before .before .before .before .before .before .before .before .before .before .before .args .at) _ (c .before .before .before .before .before .before .before .before .before .before .before .before .before .before .before .before .before .args .s .now) (c .before .before .before .before .before .before .before .before .before .before .before .before .before .before .before .before .before .pre .1 .content) (c .before .before .before .before .before .before .passes .ensures _ (edge-with (c .before .before .before .before .before .before .before .before .before .before .before .pattern-fields .ensures) (c .before .before .before .before .before .before .before .before .before .slot-of .ensures))) (not-false _ (c .before .before .before .before .before .if1 .left)) (c .before .before .before .before .before .before .before .before .before .before .before .pattern-fields .ensures .destination) (c .before .before .before .before .before .before .before .before .before .before .before .pattern-fields .ensures .tag-is) (c .before .before .if3 .taken))
 
 saved-requires-3 : tie.Need-saved-requires-3
 saved-requires-3 c κs = search needs
@@ -56,7 +57,7 @@ same-length-4 : tie.Need-same-length-4
 same-length-4 c = search needs
 
 returns-4 : tie.Need-returns-4
-returns-4 c = passed (omega arith) (c .saved3 .ensures) (pattern-high (c .before .before .before .before .before .before .before .before .before .before .before .before .before .before .before .before .before .before .args .packet .now) (c .before .before .before .before .before .before .before .before .before .before .before .before .before .before .before .before .before .before .args .key .now) (c .before .before .before .before .before .before .before .before .before .before .before .before .before .before .before .before .before .before .args .slots .now) (c .before .before .before .before .before .before .before .before .before .before .before .before .before .before .before .before .before .before .args .at) (c .before .before .before .before .before .before .before .before .before .before .before .before .before .before .before .before .before .before .args .size) (c .before .before .before .before .before .before .before .before .before .before .before .before .before .before .before .before .before .before .args .s .now) (c .before .before .before .before .before .before .before .before .before .before .text-from .ensures) (c .before .before .before .before .before .before .before .before .passes .ensures) (not-false _ (c .before .before .before .before .before .before .before .if1 .left)) (c .before .before .before .before .before .before .number-in2 .ensures) (c .before .before .before .before .before .before .before .before .before .before .before .before .before .number-in .ensures) (c .before .before .before .before .before .before .before .before .before .before .before .before .before .before .before .before .before .before .pre .0) (c .before .before .if4 .taken))
+returns-4 c = passed (omega arith) (c .saved3 .ensures) (pattern-high (c .before .before .before .before .before .before .before .before .before .before .before .before .before .before .before .before .before .before .args .packet .now) (c .before .before .before .before .before .before .before .before .before .before .before .before .before .before .before .before .before .before .args .key .now) (c .before .before .before .before .before .before .before .before .before .before .before .before .before .before .before .before .before .before .args .slots .now) (c .before .before .before .before .before .before .before .before .before .before .before .before .before .before .before .before .before .before .args .at) _ (c .before .before .before .before .before .before .before .before .before .before .before .before .before .before .before .before .before .before .args .s .now) (c .before .before .before .before .before .before .before .before .before .before .before .before .before .before .before .before .before .before .pre .1 .content) (c .before .before .before .before .before .before .before .passes .ensures _ (edge-with (c .before .before .before .before .before .before .before .before .before .before .before .before .pattern-fields .ensures) (c .before .before .before .before .before .before .before .before .before .before .slot-of .ensures))) (not-false _ (c .before .before .before .before .before .before .if1 .left)) (c .before .before .before .before .before .before .before .before .before .before .before .before .pattern-fields .ensures .destination) (c .before .before .before .before .before .before .before .before .before .before .before .before .pattern-fields .ensures .tag-is) (c .before .before .before .before .before .before .before .before .before .before .before .before .before .before .before .before .before .before .pre .0) (c .before .before .if4 .taken))
 
 sub-i : tie.Need-sub-i
 sub-i c = search needs
@@ -92,19 +93,20 @@ same-length-5 : tie.Need-same-length-5
 same-length-5 c = search needs
 
 returns-5 : tie.Need-returns-5
-returns-5 c = rebound (omega (arith, c .before .before .before .if3 .left, c .before .before .if4 .left)) (c .saved4 .ensures) (c .before .before .before .before .before .before .before .before .before .before .before .before .before .before .before .before .before .before .args .at) (c .before .before .before .before .before .before .before .before .before .before .before .before .before .before .before .before .before .before .args .size) (pattern-binds (c .before .before .before .before .before .before .before .before .before .before .before .before .before .before .before .before .before .before .args .packet .now) (c .before .before .before .before .before .before .before .before .before .before .before .before .before .before .before .before .before .before .args .key .now) (c .before .before .before .before .before .before .before .before .before .before .before .before .before .before .before .before .before .before .args .slots .now) (c .before .before .before .before .before .before .before .before .before .before .before .before .before .before .before .before .before .before .args .at) (c .before .before .before .before .before .before .before .before .before .before .before .before .before .before .before .before .before .before .args .size) (c .before .before .before .before .before .before .before .before .before .before .before .before .before .before .before .before .before .before .args .s .now) (c .before .before .before .before .before .before .before .before .before .before .text-from .ensures) (c .before .before .before .before .before .before .before .before .passes .ensures) (not-false _ (c .before .before .before .before .before .before .before .if1 .left)) (c .before .before .before .before .before .before .number-in2 .ensures) (c .before .before .before .before .before .before .before .before .before .before .before .before .before .number-in .ensures) (c .before .before .before .before .before .before .before .before .before .before .before .slot-of .ensures) (c .before .before .before .before .if2 .left) (c .before .before .before .before .before .before .before .before .before .before .before .before .before .before .before .before .before .before .pre .1 .2) (c .before .before .before .if3 .left))
+returns-5 c = rebound (omega (arith, c .before .before .before .if3 .left, c .before .before .if4 .left)) (c .saved4 .ensures) (c .before .before .before .before .before .before .before .before .before .before .before .before .before .before .before .before .before .before .args .at) _ (pattern-binds (c .before .before .before .before .before .before .before .before .before .before .before .before .before .before .before .before .before .before .args .packet .now) (c .before .before .before .before .before .before .before .before .before .before .before .before .before .before .before .before .before .before .args .key .now) (c .before .before .before .before .before .before .before .before .before .before .before .before .before .before .before .before .before .before .args .slots .now) (c .before .before .before .before .before .before .before .before .before .before .before .before .before .before .before .before .before .before .args .at) _ (c .before .before .before .before .before .before .before .before .before .before .before .before .before .before .before .before .before .before .args .s .now) (c .before .before .before .before .before .before .before .before .before .before .before .before .before .before .before .before .before .before .pre .1 .content) (c .before .before .before .before .before .before .before .passes .ensures _ (edge-with (c .before .before .before .before .before .before .before .before .before .before .before .before .pattern-fields .ensures) (c .before .before .before .before .before .before .before .before .before .before .slot-of .ensures))) (not-false _ (c .before .before .before .before .before .before .if1 .left)) (c .before .before .before .before .before .before .before .before .before .before .before .before .pattern-fields .ensures .destination) (c .before .before .before .before .before .before .before .before .before .before .before .before .pattern-fields .ensures .tag-is) (c .before .before .before .before .before .before .before .before .before .before .slot-of .ensures) (c .before .before .before .before .if2 .left) (c .before .before .before .before .before .before .before .before .before .before .before .before .before .before .before .before .before .before .pre .1 .some) (c .before .before .before .if3 .left))
 
 pub cross-pattern-spec : {M : Type 1} → statement M
 cross-pattern-spec =
     tie.close
     (tie.spec
-    number-in-requires
+    pattern-fields-requires
     slot-of-requires
-    text-from-requires
+    sub-passes
+    part-passes-start
+    part-passes-end
     passes-requires
     same-length
     returns
-    number-in-requires-2
     saved-requires
     same-length-2
     returns-2

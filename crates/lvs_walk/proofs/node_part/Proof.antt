@@ -1,56 +1,55 @@
 -- `lvs_walk::node_part` meets its contract. Assumes nothing.
 use borrow.Author.Needs.{needs}
+use Prim.Native.Nat.{_+_, _*_}
 use native.Mathlib.Omega.{arith}
-use Prim.Native.Nat.{_<_}
-use Rattle.lvs_walk.proofs.Nodes.{node-none, node-found, node-ended, node-broken}
+use Rattle.lvs_walk.specs.Nodes.{placeWords}
+use Rattle.lvs_walk.proofs.Places.{part-out, part-in}
 use Rattle.lvs_walk.proofs.node_part.Statement.{statement}
 use Rattle.lvs_walk.proofs.node_part.Tie as tie
 
 returns : tie.Need-returns
-returns c = node-none (c .before .before .before .pre) _ (omega (arith, c .if1 .taken))
+returns c = part-out _ _ (c .if1 .taken)
 
-mul-t8 : tie.Need-mul-t8
-mul-t8 c = search needs
+mul-i : tie.Need-mul-i
+mul-i c = search needs
 
-shared-slice-read-t12 : tie.Need-shared-slice-read-t12
-shared-slice-read-t12 c = search needs
+mul-t6 : tie.Need-mul-t6
+mul-t6 c = search needs
 
-cast-t13 : tie.Need-cast-t13
-cast-t13 c = omega (arith, c .shared-slice-known3 .given (c .before .before .before .before .args .node))
+shared-slice-read-t8 : tie.Need-shared-slice-read-t8
+unfolding placeWords
+shared-slice-read-t8 c = omega (arith, c .before .before .pre)
 
-element-requires : tie.Need-element-requires
-element-requires c κs = search needs
+cast-t9 : tie.Need-cast-t9
+cast-t9 c = omega (arith, c .shared-slice-known .given (c .before .before .args .node * 2))
 
-enum-known-start : tie.Need-enum-known-start
-enum-known-start c = search needs
+add-t10 : tie.Need-add-t10
+add-t10 c = search needs
 
-enum-told : tie.Need-enum-told
-enum-told c = search needs
+mul-t11 : tie.Need-mul-t11
+mul-t11 c = search needs
 
-enum-told-2 : tie.Need-enum-told-2
-enum-told-2 c = search needs
+shared-slice-read-t13 : tie.Need-shared-slice-read-t13
+unfolding placeWords
+shared-slice-read-t13 c = omega (arith, c .before .before .before .pre)
+
+cast-t14 : tie.Need-cast-t14
+cast-t14 c = omega (arith, c .shared-slice-known2 .given (c .before .before .before .args .node * 2 + 1))
 
 returns-2 : tie.Need-returns-2
-returns-2 c = node-found (c .before .before .before .before .before .before .before .before .pre) _ (omega (arith, c .before .before .before .before .before .if1 .left)) (c .before .before .before .element .ensures) (c .before .start .given .1)
-
-returns-3 : tie.Need-returns-3
-returns-3 c = node-ended (c .before .before .before .before .before .before .before .pre) _ (omega (arith, c .before .before .before .before .if1 .left)) (c .before .before .element .ensures) (c .enum-told .given .1)
-
-returns-4 : tie.Need-returns-4
-returns-4 c = node-broken (c .before .before .before .before .before .before .before .pre) _ (omega (arith, c .before .before .before .before .if1 .left)) (c .before .before .element .ensures) (c .enum-told2 .given .1)
+returns-2 c = part-in _ _ (c .before .before .if1 .left)
 
 pub node-part-spec : {M : Type 1} → statement M
 node-part-spec =
     tie.close
     (tie.spec
     returns
-    mul-t8
-    shared-slice-read-t12
-    cast-t13
-    element-requires
-    enum-known-start
-    enum-told
-    enum-told-2
-    returns-2
-    returns-3
-    returns-4)
+    mul-i
+    mul-t6
+    shared-slice-read-t8
+    cast-t9
+    add-t10
+    mul-t11
+    shared-slice-read-t13
+    cast-t14
+    returns-2)

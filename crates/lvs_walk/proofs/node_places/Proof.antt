@@ -1,12 +1,13 @@
--- `lvs_walk::node_places` meets its contract. The invariant `Filled`: the first n words are the places of the first n Nodes. Assumes nothing.
-use mathlib.Core.Path.{_≡_, refl, sym, _∙_}
-use native.Mathlib.Omega.{arith}
+-- `lvs_walk::node_places` meets its contract. The invariant `Filled`: the words of the first n Nodes are there. Assumes nothing.
 use borrow.Author.Needs.{needs}
 use Prim.Native.Nat.{_-_, _≤_}
-use lib.ListN.{length}
+use mathlib.Core.Path.{_≡_, sym, ap, _∙_}
+use native.Mathlib.Omega.{arith}
+use lib.ListN.{length, length-set}
 use Rattle.tlv.proofs.Cuts.{seen}
 use Rattle.lvs_fields.proofs.Elements.{stop-end, stop-malformed}
-use Rattle.lvs_walk.proofs.Words.{Filled, filled-first, filled-node, filled-other, filled-all, more}
+use Rattle.lvs_walk.specs.Nodes.{placeWords}
+use Rattle.lvs_walk.proofs.Places.{Filled, filled-first, filled-other, filled-node, filled-all, more, body-low}
 use Rattle.lvs_walk.proofs.node_places.Statement.{statement}
 use Rattle.lvs_walk.proofs.node_places.Tie as tie
 
@@ -17,7 +18,7 @@ abbrev μ-loop : tie.MeasureT-loop
 μ-loop model places₀ place₀ n₀ places place n = length model - place .at
 
 loop-holds : tie.Need-loop-holds Inv-loop μ-loop
-loop-holds c = (omega arith, filled-first _ _ (c .before .before .pre .1))
+loop-holds c = (omega arith, filled-first _ (c .before .before .pre .1))
 
 element-requires : tie.Need-element-requires Inv-loop μ-loop
 element-requires c κs = search needs
@@ -25,47 +26,84 @@ element-requires c κs = search needs
 enum-known-typ : tie.Need-enum-known-typ Inv-loop μ-loop
 enum-known-typ c = search needs
 
+sub-body-of : tie.Need-sub-body-of Inv-loop μ-loop
+sub-body-of c = seen _ _ (c .before .before .before .before .element .ensures) (c .before .before .typ .given .1) .order
+
+part-body-of-start : tie.Need-part-body-of-start Inv-loop μ-loop
+part-body-of-start c = seen _ _ (c .before .before .before .before .element .ensures) (c .before .before .typ .given .1) .order
+
+part-body-of-end : tie.Need-part-body-of-end Inv-loop μ-loop
+part-body-of-end c = seen _ _ (c .before .before .before .before .element .ensures) (c .before .before .typ .given .1) .within
+
+body-of-requires : tie.Need-body-of-requires Inv-loop μ-loop
+body-of-requires c κs = search needs
+
+add-body : tie.Need-add-body Inv-loop μ-loop
+add-body c = let f = seen _ _ (c .before .before .before .before .before .before .element .ensures) (c .before .before .before .before .typ .given .1) in omega (arith, body-low (c .before .before .before .before .before .before .before .loop .inv .1) f (c .before .before .if1 .taken) (c .body-of .ensures), f .within, c .before .before .before .before .before .before .before .before .before .before .pre .0 .short)
+
 cast-places : tie.Need-cast-places Inv-loop μ-loop
-cast-places c = let f = seen _ _ (c .before .before .before .before .element .ensures) (c .before .before .typ .given .1) in omega (arith, c .before .before .before .before .before .before .before .before .pre .0 .short)
+cast-places c = let f = seen _ _ (c .before .before .before .before .before .before .element .ensures) (c .before .before .before .before .typ .given .1) in omega (arith, body-low (c .before .before .before .before .before .before .before .loop .inv .1) f (c .before .before .if1 .taken) (c .body-of .ensures), f .within, c .before .before .before .before .before .before .before .before .before .before .pre .0 .short)
 
 mul-places : tie.Need-mul-places Inv-loop μ-loop
-mul-places c = search needs
+mul-places c = omega (arith, more (c .before .before .before .before .before .before .before .loop .inv .1) (seen _ _ (c .before .before .before .before .before .before .element .ensures) (c .before .before .before .before .typ .given .1)) (c .before .before .if1 .taken), c .before .before .before .before .before .before .before .before .before .before .pre .0 .few)
+
+mul-places-2 : tie.Need-mul-places-2 Inv-loop μ-loop
+mul-places-2 c = search needs
 
 slice-write-places : tie.Need-slice-write-places Inv-loop μ-loop
-slice-write-places c = omega (arith, more (c .before .before .before .before .before .loop .inv .1) (c .before .before .before .before .element .ensures) (c .before .before .typ .given .1) (c .if1 .taken), c .before .before .before .before .before .before .before .before .pre .0 .few, c .before .before .before .before .before .loop .inv .1 .room)
+unfolding placeWords
+slice-write-places c = omega (arith, more (c .before .before .before .before .before .before .before .loop .inv .1) (seen _ _ (c .before .before .before .before .before .before .element .ensures) (c .before .before .before .before .typ .given .1)) (c .before .before .if1 .taken), c .before .before .before .before .before .before .before .before .before .before .pre .0 .few, c .before .before .before .before .before .before .before .loop .inv .1 .room)
+
+cast-places-2 : tie.Need-cast-places-2 Inv-loop μ-loop
+cast-places-2 c = let f = seen _ _ (c .before .before .before .before .before .before .element .ensures) (c .before .before .before .before .typ .given .1) in omega (arith, f .within, c .before .before .before .before .before .before .before .before .before .before .pre .0 .short)
+
+mul-places-3 : tie.Need-mul-places-3 Inv-loop μ-loop
+mul-places-3 c = omega (arith, more (c .before .before .before .before .before .before .before .loop .inv .1) (seen _ _ (c .before .before .before .before .before .before .element .ensures) (c .before .before .before .before .typ .given .1)) (c .before .before .if1 .taken), c .before .before .before .before .before .before .before .before .before .before .pre .0 .few)
+
+add-places : tie.Need-add-places Inv-loop μ-loop
+add-places c = omega (arith, more (c .before .before .before .before .before .before .before .loop .inv .1) (seen _ _ (c .before .before .before .before .before .before .element .ensures) (c .before .before .before .before .typ .given .1)) (c .before .before .if1 .taken), c .before .before .before .before .before .before .before .before .before .before .pre .0 .few)
+
+mul-places-4 : tie.Need-mul-places-4 Inv-loop μ-loop
+mul-places-4 c = search needs
+
+slice-write-places-2 : tie.Need-slice-write-places-2 Inv-loop μ-loop
+unfolding placeWords
+slice-write-places-2 c = simp length-set (omega (arith, more (c .before .before .before .before .before .before .before .loop .inv .1) (seen _ _ (c .before .before .before .before .before .before .element .ensures) (c .before .before .before .before .typ .given .1)) (c .before .before .if1 .taken), c .before .before .before .before .before .before .before .before .before .before .pre .0 .few, c .before .before .before .before .before .before .before .loop .inv .1 .room))
 
 add-n : tie.Need-add-n Inv-loop μ-loop
-add-n c = omega (arith, more (c .before .before .before .before .before .loop .inv .1) (c .before .before .before .before .element .ensures) (c .before .before .typ .given .1) (c .if1 .taken), c .before .before .before .before .before .before .before .before .pre .0 .few)
+add-n c = omega (arith, more (c .before .before .before .before .before .before .before .loop .inv .1) (seen _ _ (c .before .before .before .before .before .before .element .ensures) (c .before .before .before .before .typ .given .1)) (c .before .before .if1 .taken), c .before .before .before .before .before .before .before .before .before .before .pre .0 .few)
 
 loop-less : tie.Need-loop-less Inv-loop μ-loop
-loop-less c = let f = seen _ _ (c .before .before .before .before .element .ensures) (c .before .before .typ .given .1) in omega arith
+loop-less c = let f = seen _ _ (c .before .before .before .before .before .before .element .ensures) (c .before .before .before .before .typ .given .1) in omega arith
 
 loop-again : tie.Need-loop-again Inv-loop μ-loop
-loop-again c = let f = seen _ _ (c .before .before .before .before .element .ensures) (c .before .before .typ .given .1) in (omega arith, filled-node (c .before .before .before .before .before .loop .inv .1) (c .before .before .before .before .element .ensures) (c .before .before .typ .given .1) (c .if1 .taken) (c .before .before .before .before .before .before .before .before .pre .0 .few))
+loop-again c = let f = seen _ _ (c .before .before .before .before .before .before .element .ensures) (c .before .before .before .before .typ .given .1) in (omega arith, filled-node (c .before .before .before .before .before .before .before .loop .inv .1) f (c .before .before .if1 .taken) (c .before .before .before .before .before .before .before .before .before .before .pre .0 .few) (c .body-of .ensures))
 
 loop-less-2 : tie.Need-loop-less-2 Inv-loop μ-loop
 loop-less-2 c = let f = seen _ _ (c .before .before .before .before .element .ensures) (c .before .before .typ .given .1) in omega arith
 
 loop-again-2 : tie.Need-loop-again-2 Inv-loop μ-loop
-loop-again-2 c = let f = seen _ _ (c .before .before .before .before .element .ensures) (c .before .before .typ .given .1) in (omega arith, filled-other (c .before .before .before .before .before .loop .inv .1) (c .before .before .before .before .element .ensures) (c .before .before .typ .given .1) (c .if1 .left))
+loop-again-2 c = let f = seen _ _ (c .before .before .before .before .element .ensures) (c .before .before .typ .given .1) in (omega arith, filled-other (c .before .before .before .before .before .loop .inv .1) f (c .if1 .left))
 
 enum-told : tie.Need-enum-told Inv-loop μ-loop
 enum-told c = search needs
 
 same-length : tie.Need-same-length Inv-loop μ-loop
-same-length c = c .before .before .before .loop .inv .1 .room ∙ sym (c .before .before .before .before .before .before .pre .1)
+unfolding placeWords
+same-length c = c .before .before .before .loop .inv .1 .room ∙ sym (ap length (c .before .before .before .before .before .before .pre .1))
 
 returns : tie.Need-returns Inv-loop μ-loop
-returns c = (omega (arith, c .before .before .before .loop .inv .1 .few, c .before .before .before .before .before .before .pre .0 .few), filled-all (c .before .before .before .loop .inv .1) (c .before .before .before .before .before .before .pre .0 .few) (stop-end _ _ (c .before .before .element .ensures) (c .enum-told .given .1)))
+returns c = filled-all (c .before .before .before .loop .inv .1) (stop-end _ _ (c .before .before .element .ensures) (c .enum-told .given .1))
 
 enum-told-2 : tie.Need-enum-told-2 Inv-loop μ-loop
 enum-told-2 c = search needs
 
 same-length-2 : tie.Need-same-length-2 Inv-loop μ-loop
-same-length-2 c = c .before .before .before .loop .inv .1 .room ∙ sym (c .before .before .before .before .before .before .pre .1)
+unfolding placeWords
+same-length-2 c = c .before .before .before .loop .inv .1 .room ∙ sym (ap length (c .before .before .before .before .before .before .pre .1))
 
 returns-2 : tie.Need-returns-2 Inv-loop μ-loop
-returns-2 c = (omega (arith, c .before .before .before .loop .inv .1 .few, c .before .before .before .before .before .before .pre .0 .few), filled-all (c .before .before .before .loop .inv .1) (c .before .before .before .before .before .before .pre .0 .few) (stop-malformed _ _ (c .before .before .element .ensures) (c .enum-told2 .given .1)))
+returns-2 c = filled-all (c .before .before .before .loop .inv .1) (stop-malformed _ _ (c .before .before .element .ensures) (c .enum-told2 .given .1))
 
 pub node-places-spec : {M : Type 1} → statement M
 node-places-spec =
@@ -76,9 +114,20 @@ node-places-spec =
     loop-holds
     element-requires
     enum-known-typ
+    sub-body-of
+    part-body-of-start
+    part-body-of-end
+    body-of-requires
+    add-body
     cast-places
     mul-places
+    mul-places-2
     slice-write-places
+    cast-places-2
+    mul-places-3
+    add-places
+    mul-places-4
+    slice-write-places-2
     add-n
     loop-less
     loop-again
