@@ -4,8 +4,9 @@
 usage: speed.py
 
 A case is run many times by both programs. What reading and printing it costs is taken off: the same run with a model of the same length
-whose first byte is wrong, which both refuse at once. Instructions are counted by valgrind --tool=callgrind; times are user time, the
-least of several runs in turn. `a byte` is our instructions for each byte of the model.
+whose first byte is wrong, which both refuse at once. Instructions are counted by valgrind --tool=callgrind. The ratio of the times is
+the median over several turns, in each of which both programs run one after the other; its least and largest value stand behind it. `a
+byte` is our instructions for each byte of the model.
 """
 import os
 import pathlib
@@ -23,8 +24,8 @@ from compare import build_reference, OURS, REFERENCE  # noqa: E402
 
 PROGRAMS = OURS / "lvs_cases", REFERENCE / "answer_cases"
 COUNTED = 4  # times that a case is run under callgrind
-TIMED_SECONDS = 0.2  # for one timed run, about
-TURNS = 5
+TIMED_SECONDS = 0.3  # for one timed run of ours, about
+TURNS = 9
 
 
 # models of about a given size
@@ -149,28 +150,32 @@ def seconds(program, given):
     return resource.getrusage(resource.RUSAGE_CHILDREN).ru_utime - before
 
 
-def times(case, count):
-    """The least time of each program for the case and for the spoiled one."""
+def time_ratios(case, count):
+    """Ours : the reference's in each turn, sorted."""
     with tempfile.TemporaryFile() as real, tempfile.TemporaryFile() as empty:
         for _ in range(count):
             real.write(case)
             empty.write(spoiled(case))
         real.flush(), empty.flush()
-        turns = [[seconds(program, given) for program in PROGRAMS for given in (real, empty)] for _ in range(TURNS)]
-    return [min(column) for column in zip(*turns)]
+        turns = []
+        for _ in range(TURNS):
+            ours, theirs = (seconds(program, real) - seconds(program, empty) for program in PROGRAMS)
+            turns.append(ours / theirs)
+    return sorted(turns)
 
 
 def row(what, model, case):
     ours, theirs = (instructions(program, case) - instructions(program, spoiled(case)) for program in PROGRAMS)
-    count = max(20, int(TIMED_SECONDS * 2e9 / max(ours, 1)))
-    count = min(count, (256 << 20) // len(case))
-    a, a0, b, b0 = times(case, count)
-    print(f"{what:<36}{ours:>12.0f}{theirs:>12.0f}{ours / theirs:>8.2f}{(a - a0) / (b - b0):>8.2f}{ours / len(model):>8.1f}", flush=True)
+    count = max(20, int(TIMED_SECONDS * 5e9 / max(ours, 1)))
+    count = min(count, (512 << 20) // len(case))
+    times = time_ratios(case, count)
+    spread = f"{times[0]:.2f} to {times[-1]:.2f}"
+    print(f"{what:<36}{ours:>12.0f}{theirs:>12.0f}{ours / theirs:>8.2f}{times[TURNS // 2]:>8.2f}{spread:>16}{ours / len(model):>8.1f}", flush=True)
 
 
 def main():
     build_reference()
-    print(f"{'':<36}{'ours':>12}{'reference':>12}{'ratio':>8}{'time':>8}{'a byte':>8}")
+    print(f"{'':<36}{'ours':>12}{'reference':>12}{'ratio':>8}{'time':>8}{'':>16}{'a byte':>8}")
     for what, model, case in workloads():
         row(what, model, case)
 
