@@ -1,9 +1,9 @@
 -- What the calls' definitions come to, by what the callees answered. Assumes nothing.
 use Prim.Native.Nat.{ℕ, _+_, _≤_, _<_}
-use mathlib.Core.Path.{_≡_, refl, sym, ap, _∙_}
-use mathlib.Core.Bool.{Bool, true, false, cond}
-use mathlib.Core.List.{List, [], _∷_, _++_, map}
-use mathlib.Core.Option.{Option, none, some}
+use mathlib.Core.Path.{_≡_, refl, sym, _∙_}
+use mathlib.Core.Bool.{Bool, true, false}
+use mathlib.Core.List.{List, _++_}
+use mathlib.Core.Option.{none, some}
 use native.Mathlib.Omega.{arith}
 use borrow.Author.Tests.{lt-ltb, le-ltb, ltb-false}
 use lib.Dec.{ltb}
@@ -13,10 +13,10 @@ use Rattle.lvs_spec.specs.Limits.{maxModelBytes, maxNodes, maxNameBytes, bindin
 use Rattle.lvs_spec.specs.Types as type
 use Rattle.lvs_spec.specs.WellFormed.{tooLong, otherVersion, wellFormed}
 use Rattle.lvs_spec.specs.Model.{Model, insides, nodeOf, modelOf}
-use Rattle.lvs_spec.specs.Verdict.{Verdict, Reading, unreadable, describes, reading, rules, decide, judge, verdict, somewhere}
-use Rattle.lvs_spec.specs.Names.{Component, NameReading, badName, goodName, rowReading, nameOf, nameReading, packetName, keyName}
+use Rattle.lvs_spec.specs.Verdict.{Verdict, unreadable, describes, reading, rules, decide, judge, verdict}
+use Rattle.lvs_spec.specs.Names.{Component, badName, goodName, nameReading, packetName, keyName}
 use Rattle.lvs_spec.specs.Walk.{Bindings, packetMatches, pairs}
-use Rattle.lvs_spec.specs.Answers.{MatchAnswer, SignAnswer, plain, usable, unusable, usableModel, words, boundCount, matchFound, matchRoom, matchName, matchIn, matchOutcome, pairFound, signNames, signIn, signAnswer}
+use Rattle.lvs_spec.specs.Answers.{MatchAnswer, SignAnswer, plain, words, boundCount, matchFound, matchRoom, matchName, matchIn, matchOutcome, pairFound, signNames, signIn, signAnswer}
 use Rattle.lvs_spec.proofs.Usable.{accepted-usable, refused-unusable}
 use Rattle.lvs_walk.specs.Calls.{Small}
 

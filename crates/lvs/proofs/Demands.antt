@@ -9,7 +9,7 @@
 use Prim.Native.Nat.{ℕ, _≤_}
 use mathlib.Core.Path.{_≡_, refl, sym, ap, _∙_}
 use mathlib.Core.Bool.{true}
-use mathlib.Core.List.{List, [], _∷_, _++_}
+use mathlib.Core.List.{List, _++_}
 use lib.ListN.{length}
 use Rattle.tlv.specs.Bytes.{Bytes}
 use Rattle.tlv.specs.Element.{Element, typeInRange, elementBytes, encode, InRange, Each}

@@ -1,11 +1,10 @@
 -- Arguments, calls, options and Constraints: what each reader answers, one law for each return and turn. Assumes nothing.
-use Prim.Native.Nat.{ℕ, zero, suc, _-_, _≤_}
+use Prim.Native.Nat.{ℕ, _-_}
 use mathlib.Core.Path.{_≡_, refl, sym, ap, subst, _∙_}
 use mathlib.Core.Bool.{Bool, true, false, _&&_, _||_, or-false}
 use mathlib.Core.List.{List, [], _∷_, _++_, map}
 use mathlib.Core.Option.{Option, none, some}
-use native.Mathlib.Omega.{arith}
-use borrow.Author.Tests.{eq-eqb, ne-eqb}
+use borrow.Author.Tests.{ne-eqb}
 use lib.Dec.{eqb}
 use lib.ListN.{length, take, drop}
 use Rattle.tlv.specs.Element.{Element, cuts}
@@ -13,7 +12,7 @@ use Rattle.tlv.specs.declared.Place.{Place}
 use Rattle.tlv.proofs.Cuts.{Step, cuts-end, element-nil}
 use Rattle.lvs_spec.specs.Lists.{any, all, is, bind, first, firstOr}
 use Rattle.lvs_spec.specs.Types as type
-use Rattle.lvs_spec.specs.Model.{Argument, Term, Call, eachCut, insides, theInside, numberOf, componentOf, argumentFrom, argumentOf, callOf, termFrom, optionOf, constraintOf, patternEdgeOf}
+use Rattle.lvs_spec.specs.Model.{Argument, eachCut, insides, theInside, numberOf, componentOf, argumentFrom, argumentOf, callOf, termFrom, optionOf, constraintOf, patternEdgeOf}
 use Rattle.lvs_spec.specs.Names.{same}
 use Rattle.lvs_spec.specs.Verdict.{Function as Known, eq, eqType, isValidId, isValidYear, functionOf}
 use Rattle.lvs_spec.specs.Walk.{Bindings, bound, boundTo, argumentIn, holds, callHolds, termHolds, optionHolds, constraintHolds}

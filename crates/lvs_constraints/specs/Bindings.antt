@@ -1,6 +1,6 @@
 -- Bindings as the code holds them: two words for each Tag, a start and a size, 0 and 0 where the Tag is unbound. A start counts through the
 -- packet's name and then the key's.
-use Prim.Native.Nat.{ℕ, zero, suc, _-_}
+use Prim.Native.Nat.{ℕ, _-_}
 use mathlib.Core.Path.{_≡_}
 use mathlib.Core.Bool.{cond}
 use mathlib.Core.List.{List, [], _∷_, map}

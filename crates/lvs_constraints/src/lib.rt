@@ -5,7 +5,7 @@
 //
 // `packet` and `key` are the two names, `slots` the bindings as they stand, and `c` the component that is to pass.
 ghost use mathlib.Core.Path.{_≡_};
-ghost use Prim.Native.Nat.{_+_, _≤_};
+ghost use Prim.Native.Nat.{_+_};
 ghost use lib.Dec.{eqb};
 ghost use lib.ListN.{length};
 ghost use Rattle.lvs_spec.specs.Lists.{any, all, is};

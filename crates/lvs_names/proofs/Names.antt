@@ -1,12 +1,12 @@
 -- Names at their places, by the tests that the readers make. Assumes nothing.
-use Prim.Native.Nat.{ℕ, zero, suc, _+_, _-_, _≤_, _<_}
+use Prim.Native.Nat.{ℕ, _+_, _-_, _≤_, _<_}
 use mathlib.Core.Path.{_≡_, refl, sym, ap, _∙_}
 use mathlib.Core.Bool.{Bool, true, false, cond, _&&_}
 use mathlib.Core.List.{List, [], _∷_}
 use mathlib.Core.Option.{Option, none, some, Option·some-injective}
 use native.Mathlib.Omega.{arith}
 use borrow.Author.Tests.{eq-eqb, ne-eqb, le-leb, lt-leb, lt-ltb, le-ltb, eqb-true}
-use lib.Dec.{eqb, leb, ltb}
+use lib.Dec.{eqb}
 use lib.ListN.{length, take, drop, length-drop}
 use lib.Seq.{length-take-le, take-all}
 use Rattle.tlv.specs.Bytes.{Bytes}
@@ -19,7 +19,7 @@ use Rattle.lvs_spec.specs.Limits.{maxComponentType, maxComponents, maxNameBytes
 use Rattle.lvs_spec.specs.Types as type
 use Rattle.lvs_spec.specs.Leaves.{isComponent}
 use Rattle.lvs_spec.specs.Model.{componentFrom, componentOf}
-use Rattle.lvs_spec.specs.Names.{Component, componentsAt, nameFrom, nameOf, NameReading, badName, goodName, rowReading, nameReading}
+use Rattle.lvs_spec.specs.Names.{Component, componentsAt, nameFrom, nameOf, badName, goodName, rowReading, nameReading}
 use Rattle.lvs_names.specs.Rows.{rowAt, rowFrom}
 use Rattle.lvs_names.specs.Reading.{headerFrom, headerOf, countedFrom, countOf}
 use Rattle.lvs_names.specs.Contents.{ContentOf, RowStep}

@@ -2,7 +2,7 @@
 use Prim.Native.Nat.{ℕ, _+_}
 use mathlib.Core.List.{List, [], _∷_}
 use lib.ListN.{length, drop}
-use Rattle.tlv.specs.Element.{Element, Cuts, done, broken, next, cuts, elementBytes}
+use Rattle.tlv.specs.Element.{Cuts, done, broken, next, cuts, elementBytes}
 use Rattle.lvs_spec.specs.Names.{Component}
 
 unfoldable pub rowAt : ℕ → Cuts → List Component

@@ -1,6 +1,6 @@
 -- What each public call answers, for good and refused input (document 01, "Refusal numbers", "Names and the walk"). The verdict call's answer
 -- is `verdict` itself.
-use Prim.Native.Nat.{ℕ, zero, suc}
+use Prim.Native.Nat.{ℕ, suc}
 use mathlib.Core.Bool.{Bool, true, false}
 use mathlib.Core.List.{List, [], _∷_, _++_}
 use mathlib.Core.Option.{Option, none, some}
@@ -9,7 +9,7 @@ use lib.ListN.{length, drop}
 use Rattle.lvs_spec.specs.Lists.{first}
 use Rattle.lvs_spec.specs.Limits.{bindingWords}
 use Rattle.lvs_spec.specs.Model.{Model}
-use Rattle.lvs_spec.specs.Verdict.{Verdict, Reading, unreadable, describes, reading, judge}
+use Rattle.lvs_spec.specs.Verdict.{Verdict, unreadable, describes, reading, judge}
 use Rattle.lvs_spec.specs.Names.{Component, NameReading, badName, goodName, packetName, keyName}
 use Rattle.lvs_spec.specs.Walk.{Bindings, Match, packetMatches, pairs}
 

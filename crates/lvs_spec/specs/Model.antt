@@ -1,8 +1,7 @@
 -- The model that bytes describe: typed, with integers as numbers. Optional elements leave no trace in it. It is meant for well-formed bytes,
 -- and total on all others.
 use Prim.Native.Nat.{ℕ}
-use mathlib.Core.Bool.{Bool, true, false}
-use mathlib.Core.List.{List, [], _∷_, _++_, map}
+use mathlib.Core.List.{List, [], _++_, map}
 use mathlib.Core.Option.{Option, none, some}
 use lib.Dec.{eqb}
 use Rattle.tlv.specs.Number.{integer}

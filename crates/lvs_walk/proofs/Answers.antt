@@ -1,20 +1,18 @@
 -- The first hit is the first match, or the first pair. Assumes nothing.
-use Prim.Native.Nat.{ℕ, zero, suc}
+use Prim.Native.Nat.{ℕ}
 use mathlib.Core.Path.{_≡_, refl, sym, ap, subst, _∙_}
 use mathlib.Core.Bool.{Bool, true, false}
 use mathlib.Core.List.{List, [], _∷_, _++_, map}
 use mathlib.Core.Option.{Option, none, some, Option·some-injective}
 use native.Mathlib.Omega.{arith}
-use lib.ListN.{replicate}
 use Rattle.lvs_spec.specs.Lists.{each, when, first}
-use Rattle.lvs_spec.specs.Limits.{bindingWords}
 use Rattle.lvs_spec.specs.Model.{Model}
 use Rattle.lvs_spec.specs.Names.{Component}
-use Rattle.lvs_spec.specs.Walk.{Bindings, Match, noBindings, matches, matchesFrom, packetMatches, lists, signers, pairs}
+use Rattle.lvs_spec.specs.Walk.{Match, noBindings, matches, matchesFrom, packetMatches, lists, signers, pairs}
 use Rattle.lvs_constraints.specs.Bindings.{binding, bindingsOf}
 use Rattle.lvs_walk.specs.Hits.{Hit, signed, worth, hits, hitOf, First}
 use Rattle.lvs_walk.specs.Calls.{clear, FirstMatch, FirstPair}
-use Rattle.lvs_walk.specs.declared.Goal.the-variants.{Match as AnyMatch, Packet, Key}
+use Rattle.lvs_walk.specs.declared.Goal.the-variants.{Match as AnyMatch, Packet}
 use Rattle.lvs_walk.specs.declared.Found.{Found}
 use Rattle.lvs_walk.specs.declared.Found.the-variants.{Nothing, At}
 

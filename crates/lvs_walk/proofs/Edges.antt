@@ -1,22 +1,22 @@
 -- The ways to answer for an edge: shut, passed with the slots as they are, and passed with a Tag bound. Assumes nothing.
 use Prim.Native.Nat.{ℕ, zero, suc, _+_, _-_, _*_, _≤_, _<_}
-use mathlib.Core.Path.{_≡_, refl, sym, ap, _∙_}
+use mathlib.Core.Path.{_≡_, refl, ap, _∙_}
 use mathlib.Core.Bool.{Bool, true, false, cond}
 use mathlib.Core.List.{List, [], _∷_}
-use mathlib.Core.Option.{Option, none, some}
+use mathlib.Core.Option.{none, some}
 use native.Mathlib.Omega.{arith}
 use lib.ListN.{length, getD, set}
 use lib.Seq.{set-getD, set-set, set-comm, set-out}
 use Rattle.tlv.specs.Element.{Element}
 use Rattle.lvs_spec.specs.Lists.{isSome, when}
 use Rattle.lvs_spec.specs.Limits.{maxTag, bindingWords}
-use Rattle.lvs_spec.specs.Model.{PatternEdge, componentOf, theInside, theInteger, valueEdgeOf, patternEdgeOf}
+use Rattle.lvs_spec.specs.Model.{componentOf, theInside, theInteger, valueEdgeOf, patternEdgeOf}
 use Rattle.lvs_spec.specs.Names.{Component, same}
 use Rattle.lvs_spec.specs.Types as type
 use Rattle.lvs_spec.specs.Walk.{Bindings, Match, bound, bindTag, crosses, crossValue, crossPattern}
-use Rattle.lvs_constraints.specs.Bindings.{textFrom, placeIn, binding, bindingsOf, SlotOf}
+use Rattle.lvs_constraints.specs.Bindings.{textFrom, bindingsOf, SlotOf}
 use Rattle.lvs_constraints.specs.declared.Slot.{Slot}
-use Rattle.lvs_constraints.proofs.Bindings.{getD-bindings, set-bindings, binding-some, unbound, is-bound}
+use Rattle.lvs_constraints.proofs.Bindings.{set-bindings, binding-some, unbound, is-bound}
 use Rattle.lvs_walk.specs.Crossing.{componentAt, crossing, Saved, Crossed}
 use Rattle.lvs_walk.specs.declared.Undo.{Undo}
 use Rattle.lvs_walk.specs.declared.Crossing.the-variants.{Shut, Open}

@@ -1,8 +1,8 @@
 -- The fields of a PatternEdge, where NodeId and Tag are its first six bytes, and anywhere. Assumes nothing.
-use Prim.Native.Nat.{ℕ, _+_, _-_, _*_, _^_, _≤_, _<_}
+use Prim.Native.Nat.{ℕ, _-_, _≤_, _<_}
 use mathlib.Core.Path.{_≡_, refl, sym, ap, _∙_}
 use mathlib.Core.Bool.{Bool, true, false, _&&_}
-use mathlib.Core.List.{List, [], _∷_, map}
+use mathlib.Core.List.{List, _∷_, map}
 use native.Mathlib.Omega.{arith}
 use borrow.Author.Tests.{eq-eqb, ne-eqb, le-leb, lt-leb, eqb-true, leb-true}
 use lib.Dec.{eqb, leb}
@@ -11,7 +11,6 @@ use lib.Seq.{drop-cons, take-all}
 use Rattle.tlv.specs.Bytes.{bigEndian}
 use Rattle.tlv.specs.Number.{integer}
 use Rattle.tlv.proofs.Cuts.{Step, short-step}
-use Rattle.lvs_spec.specs.Lists.{firstOr}
 use Rattle.lvs_spec.specs.Types as type
 use Rattle.lvs_spec.specs.Model.{insides, numberOf, theInside, theInteger, constraintOf, patternEdgeOf}
 use Rattle.lvs_fields.proofs.Elements.{insides-found, insides-other}

@@ -1,9 +1,9 @@
 -- The walk as code makes it: what a Node's hits are, one edge at a time. Assumes nothing.
-use Prim.Native.Nat.{ℕ, zero, suc, _+_, _-_, _≤_, _<_}
+use Prim.Native.Nat.{ℕ, _+_, _-_, _≤_, _<_}
 use mathlib.Core.Path.{_≡_, refl, sym, ap, subst, _∙_}
 use mathlib.Core.Bool.{Bool, true, false}
 use mathlib.Core.List.{List, [], _∷_, _++_, map, append-assoc, append-nil}
-use mathlib.Core.Option.{Option, none, some}
+use mathlib.Core.Option.{none, some}
 use native.Mathlib.Omega.{arith}
 use borrow.Author.Tests.{lt-ltb, le-ltb}
 use lib.ListN.{length, take, drop, length-drop}
@@ -12,8 +12,8 @@ use Rattle.lvs_spec.specs.Lists.{each, first}
 use Rattle.lvs_spec.specs.Types as type
 use Rattle.lvs_spec.specs.Model.{Model, Node, insides, valueEdgeOf, patternEdgeOf, nodeOf, modelOf}
 use Rattle.lvs_spec.specs.Names.{Component}
-use Rattle.lvs_spec.specs.Walk.{Bindings, Match, crossValue, crossPattern, crossings, nodeAt, matches, matchesFrom, lists}
-use Rattle.lvs_spec.proofs.Search.{each-append, each-each, orElse, first-append}
+use Rattle.lvs_spec.specs.Walk.{Bindings, Match, crossValue, crossPattern, crossings, matches, matchesFrom, lists}
+use Rattle.lvs_spec.proofs.Search.{each-append, each-each}
 use Rattle.lvs_names.specs.Rows.{rowFrom}
 use Rattle.lvs_names.specs.Contents.{RowStep, ComponentAt}
 use Rattle.lvs_names.specs.declared.ComponentRead.{ComponentRead}
@@ -22,8 +22,8 @@ use Rattle.lvs_constraints.specs.Bindings.{textFrom, placeIn, bindingsOf}
 use Rattle.lvs_walk.specs.Nodes.{nodeInside, inBody, EdgeAt, EdgeFrom}
 use Rattle.lvs_walk.specs.declared.EdgeRead.{EdgeRead}
 use Rattle.lvs_walk.specs.declared.EdgeRead.the-variants.{Edge, End}
-use Rattle.lvs_walk.specs.Hits.{Hit, signed, worth, hits, nameFor, textPlace, hitOf, First}
-use Rattle.lvs_walk.specs.Crossing.{Stands, componentAt, edgeType, crossing, matchOf, slotsBefore, undone, Crossed}
+use Rattle.lvs_walk.specs.Hits.{Hit, signed, worth, hits, nameFor, textPlace, First}
+use Rattle.lvs_walk.specs.Crossing.{Stands, componentAt, edgeType, crossing, matchOf, undone, Crossed}
 use Rattle.lvs_walk.specs.declared.Goal.{Goal}
 use Rattle.lvs_walk.specs.declared.Goal.the-variants.{Match as AnyMatch, Packet, Key}
 use Rattle.lvs_walk.specs.declared.Found.{Found}

@@ -1,21 +1,19 @@
 -- Nodes and edges at their places. Assumes nothing.
-use Prim.Native.Nat.{ℕ, zero, suc, _+_, _-_, _≤_, _<_}
+use Prim.Native.Nat.{ℕ, _+_, _-_, _≤_}
 use mathlib.Core.Path.{_≡_, refl, sym, ap, _∙_}
-use mathlib.Core.Bool.{Bool, true, false, _||_}
-use mathlib.Core.List.{List, [], _∷_, map}
-use mathlib.Core.Option.{none}
+use mathlib.Core.Bool.{Bool, true, false}
+use mathlib.Core.List.{List, [], map}
 use native.Mathlib.Omega.{arith}
 use borrow.Author.Tests.{eq-eqb, ne-eqb}
 use lib.Dec.{eqb}
 use lib.ListN.{length, take, drop, getD, length-drop, List·getD-eq-default, List·getD-map}
 use lib.Seq.{length-take-le, take-add, drop-at, drop-drop}
-use Rattle.tlv.specs.Element.{Element, cuts}
 use Rattle.tlv.specs.Number.{integer}
 use Rattle.tlv.specs.declared.Place.{Place}
 use Rattle.tlv.proofs.Cuts.{Step, cuts-end, element-nil}
 use Rattle.lvs_spec.specs.Lists.{member, any}
 use Rattle.lvs_spec.specs.Types as type
-use Rattle.lvs_spec.specs.Model.{Model, Node, eachCut, insides, integers, theInside, theInteger, numberOf, nodeOf, modelOf}
+use Rattle.lvs_spec.specs.Model.{Node, eachCut, insides, integers, theInside, theInteger, numberOf, nodeOf, modelOf}
 use Rattle.lvs_spec.specs.Walk.{noNode, nodeAt, lists}
 use Rattle.lvs_fields.proofs.Elements.{Stop, insides-found, insides-other, insides-stop}
 use Rattle.lvs_fields.specs.declared.Part.{Part}

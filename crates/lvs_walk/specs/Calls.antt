@@ -1,11 +1,11 @@
 -- What the two searches promise their callers, in lvs_spec's words.
 use Prim.Native.Nat.{ℕ, _≤_}
 use mathlib.Core.Path.{_≡_}
-use mathlib.Core.List.{List, [], _∷_}
+use mathlib.Core.List.{List, []}
 use mathlib.Core.Option.{Option, none, some}
 use lib.ListN.{length, replicate}
 use Rattle.lvs_spec.specs.Lists.{first}
-use Rattle.lvs_spec.specs.Limits.{maxModelBytes, maxNodes, maxNameBytes, bindingWords}
+use Rattle.lvs_spec.specs.Limits.{maxModelBytes, maxNodes, bindingWords}
 use Rattle.lvs_spec.specs.Types as type
 use Rattle.lvs_spec.specs.Model.{Model, insides}
 use Rattle.lvs_spec.specs.Names.{Component}

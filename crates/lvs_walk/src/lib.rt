@@ -24,7 +24,6 @@ ghost use Rattle.lvs_walk.specs.Nodes.{placeWords, noPlaces, inBody, Bod
 ghost use Rattle.lvs_walk.specs.Calls.{Small, clear, FirstMatch, FirstPair, wordOf};
 ghost use Rattle.lvs_walk.specs.Hits.{hits, nameFor, textPlace, Within, First};
 ghost use Rattle.lvs_walk.specs.Crossing.{Stands, componentAt, edgeType, crossing, plainFields, FieldsOf, undone, Saved, Crossed};
-use lvs_constraints::Slot;
 use lvs_fields::Part;
 use lvs_names::ComponentRead;
 use lvs_spec::types::NODE;

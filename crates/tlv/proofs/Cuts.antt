@@ -8,10 +8,10 @@ use native.Mathlib.Nat.{le-refl, not-suc-le-zero}
 use native.Mathlib.Omega.{arith}
 use borrow.Author.Tests.{leb-true}
 use lib.Dec.{leb}
-use lib.ListN.{length, take, drop, getD, length-drop, length-take}
+use lib.ListN.{length, take, drop, getD, length-drop}
 use lib.Seq.{drop-drop, length-take-le}
 use Rattle.tlv.specs.Number.{Num, unreadable, num, number}
-use Rattle.tlv.specs.Element.{Element, First, first, end, malformed, element, typed, sized, typeInRange, Cuts, done, broken, next, after, cutsBy, cuts, also, whole, split}
+use Rattle.tlv.specs.Element.{Element, First, first, end, malformed, element, typed, sized, typeInRange, Cuts, done, broken, next, after, cutsBy, cuts, also, split}
 use Rattle.tlv.specs.Reading.{readAt, readFrom}
 use Rattle.tlv.specs.declared.Place.{Place}
 use Rattle.tlv.specs.declared.Read.{Read}

@@ -1,16 +1,15 @@
 -- What `readAt` is at a place, by the tests that the reader makes. Assumes nothing.
-use mathlib.Core.Path.{_≡_, refl, sym, ap, _∙_}
-use mathlib.Core.List.{List, [], _∷_}
-use mathlib.Core.Bool.{Bool, true, false, cond}
-use Prim.Native.Nat.{ℕ, zero, suc, _+_, _-_, _≤_, _<_}
-use native.Mathlib.Nat.{add-assoc}
+use mathlib.Core.Path.{_≡_}
+use mathlib.Core.List.{List}
+use mathlib.Core.Bool.{true, false}
+use Prim.Native.Nat.{ℕ, _+_, _-_, _≤_, _<_}
 use native.Mathlib.Omega.{arith}
 use borrow.Author.Tests.{le-leb, lt-leb}
-use lib.ListN.{length, take, drop, getD, length-drop, drop-of-length-le}
+use lib.ListN.{length, take, drop, length-drop, drop-of-length-le}
 use lib.Seq.{drop-drop, length-take-le}
-use Rattle.tlv.specs.Number.{Num, unreadable, num, number}
-use Rattle.tlv.specs.Element.{Element, First, first, end, malformed, element, typed, sized, typeInRange}
-use Rattle.tlv.specs.Reading.{readAt, readFrom}
+use Rattle.tlv.specs.Number.{unreadable, number}
+use Rattle.tlv.specs.Element.{element, typed, sized, typeInRange}
+use Rattle.tlv.specs.Reading.{readAt}
 use Rattle.tlv.specs.declared.Read.the-variants.{Found, End, Malformed}
 use Rattle.tlv.proofs.Numbers.{Numbered, drop-next}
 

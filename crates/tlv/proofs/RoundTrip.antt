@@ -1,18 +1,18 @@
 -- `encode` and `split` undo one another. Assumes nothing.
-use mathlib.Core.Path.{_≡_, refl, sym, ap, _∙_, subst}
+use mathlib.Core.Path.{_≡_, refl, sym, ap, _∙_}
 use mathlib.Core.List.{List, [], _∷_, _++_, append-assoc, append-nil}
-use mathlib.Core.Option.{Option, none, some}
+use mathlib.Core.Option.{none, some}
 use mathlib.Core.Bool.{Bool, true, false, cond, _&&_}
-use Prim.Native.Nat.{ℕ, zero, suc, _+_, _-_, _*_, _^_, _≤_, _<_}
+use Prim.Native.Nat.{ℕ, zero, suc, _+_, _-_, _^_, _≤_, _<_}
 use native.Mathlib.Numerals.{one-add}
 use native.Mathlib.Omega.{arith}
 use borrow.Author.Tests.{lt-ltb, le-ltb, le-leb, ltb-true, ltb-false, eqb-true, eqb-false, leb-true}
 use lib.Dec.{leb, ltb, eqb, lit<, lit≤}
-use lib.ListN.{length, take, drop, getD, length-append, length-drop, take-append-drop}
+use lib.ListN.{length, take, drop, length-append, length-drop, take-append-drop}
 use lib.Seq.{take-at, drop-append-seam, drop-append-add, take-append-seam, drop-drop, length-take-le}
 use Rattle.tlv.specs.Bytes.{Bytes, bigEndian, bigEndianBytes}
-use Rattle.tlv.specs.Number.{Num, unreadable, num, width, least, mark, wide, number, numberBytes, integerSize, integer}
-use Rattle.tlv.specs.Element.{Element, First, first, end, malformed, element, typed, sized, typeInRange, Cuts, done, broken, next, after, cutsBy, cuts, also, whole, split, elementBytes, encode, InRange, Each, nexts}
+use Rattle.tlv.specs.Number.{num, width, least, mark, wide, number, numberBytes, integerSize, integer}
+use Rattle.tlv.specs.Element.{Element, First, first, end, malformed, element, typed, sized, typeInRange, Cuts, done, broken, next, cuts, whole, split, elementBytes, encode, InRange, Each, nexts}
 use Rattle.tlv.specs.declared.Place.{Place}
 use Rattle.tlv.proofs.Bytes.{bytes-left, bytes-right, bytes-append, bytes-spelled, bytes-drop, bytes-take, big-lt, length-spelled, big-spelled, spelled-big}
 use Rattle.tlv.proofs.Numbers.{Shape, one, many, shape, unreadable-num}

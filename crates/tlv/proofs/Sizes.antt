@@ -1,16 +1,15 @@
 -- How long an encoding is, and which elements have one. Assumes nothing.
 use mathlib.Core.Path.{_≡_, refl, sym, ap, _∙_}
-use mathlib.Core.List.{List, [], _∷_, _++_}
-use mathlib.Core.Option.{Option, some}
+use mathlib.Core.List.{List, [], _∷_}
+use mathlib.Core.Option.{some}
 use mathlib.Core.Bool.{Bool, true, false, cond}
-use Prim.Native.Nat.{ℕ, zero, suc, _+_, _≤_, _<_, _^_}
-use native.Mathlib.Nat.{le-refl}
+use Prim.Native.Nat.{ℕ, suc, _+_, _≤_, _<_, _^_}
 use native.Mathlib.Omega.{arith}
-use borrow.Author.Tests.{lt-ltb, ltb-true, ltb-false}
+use borrow.Author.Tests.{lt-ltb, ltb-true}
 use lib.Dec.{ltb, lit≤}
 use lib.ListN.{length, length-append}
 use Rattle.tlv.specs.Number.{width, mark, numberBytes}
-use Rattle.tlv.specs.Element.{Element, typeInRange, element, split, elementBytes, encode, InRange, Each}
+use Rattle.tlv.specs.Element.{Element, typeInRange, split, elementBytes, encode, InRange, Each}
 use Rattle.tlv.proofs.Bytes.{length-spelled}
 use Rattle.tlv.proofs.Cuts.{element-whole, cuts-end, cuts-malformed, cuts-next, split-end, split-broken, split-next, by-elements, none-some, also-some}
 

@@ -1,9 +1,9 @@
 -- The numbers of document 01, "Elements". A type or a length is a number of 1, 3, 5 or 9 bytes: below 253 one byte; else 253 and two bytes,
 -- 254 and four, 255 and eight, high byte first, in the shortest form (NDN's VAR-NUMBER). An integer value has 1, 2, 4 or 8 bytes,
 -- not necessarily the shortest (NDN's NonNegativeInteger). Definitions only.
-use Prim.Native.Nat.{ℕ, zero, suc, _+_}
+use Prim.Native.Nat.{ℕ, _+_}
 use mathlib.Core.List.{List, [], _∷_}
-use mathlib.Core.Bool.{Bool, true, false, cond, _||_}
+use mathlib.Core.Bool.{Bool, cond, _||_}
 use mathlib.Core.Option.{Option, none, some}
 use lib.Dec.{ltb, leb, eqb}
 use lib.ListN.{length, take}

@@ -5,7 +5,6 @@ use mathlib.Core.Option.{Option, none, some}
 use lib.ListN.{length, drop}
 use Rattle.tlv.specs.Number.{Num, unreadable, num, number, integer}
 use Rattle.tlv.specs.Element.{First, end, malformed, first, element}
-use Rattle.tlv.specs.declared.Place.{Place}
 use Rattle.tlv.specs.declared.NumberRead.{NumberRead}
 use Rattle.tlv.specs.declared.NumberRead.the-variants.{Value, Unreadable}
 use Rattle.tlv.specs.declared.Read.{Read}

@@ -1,6 +1,6 @@
 -- `lvs::judge_model` meets its contract. Assumes nothing.
 use borrow.Author.Needs.{needs}
-use mathlib.Core.Path.{_≡_, sym, ap, subst, _∙_}
+use mathlib.Core.Path.{sym, ap, _∙_}
 use Rattle.lvs_grammar.proofs.Readings.{reading-is}
 use Rattle.lvs_rules.specs.Faults.{judgedOf}
 use Rattle.lvs.proofs.Calls.{verdict-unreadable, verdict-judged}

@@ -1,7 +1,6 @@
 -- `lvs::match_name` meets its contract: what the callees answered says which case of `matchOutcome` it is. Assumes nothing.
 use borrow.Author.Needs.{needs}
-use mathlib.Core.Path.{_≡_, refl, sym, ap, subst, _∙_}
-use native.Mathlib.Omega.{arith}
+use mathlib.Core.Path.{refl, sym, ap, _∙_}
 use Rattle.lvs_names.specs.Reading.{nameRead}
 use Rattle.lvs.specs.Readings.{verdictOf}
 use Rattle.lvs_walk.proofs.Answers.{found-none, found-match}

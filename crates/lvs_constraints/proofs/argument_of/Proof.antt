@@ -1,5 +1,5 @@
 -- `lvs_constraints::argument_of` meets its contract. The invariant: the first argument from this place on is the first of all. Assumes nothing.
-use mathlib.Core.Path.{_≡_, refl, sym, _∙_}
+use mathlib.Core.Path.{_≡_, refl}
 use native.Mathlib.Omega.{arith}
 use borrow.Author.Needs.{needs}
 use Prim.Native.Nat.{_-_}

@@ -1,6 +1,6 @@
 -- `lvs_constraints::bound_same` meets its contract. Assumes nothing.
 use borrow.Author.Needs.{needs}
-use mathlib.Core.Path.{_≡_, refl, sym, _∙_}
+use mathlib.Core.Path.{sym, _∙_}
 use Rattle.lvs_constraints.proofs.Bindings.{bound-argument, tag-none, tag-some}
 use Rattle.lvs_constraints.proofs.bound_same.Statement.{statement}
 use Rattle.lvs_constraints.proofs.bound_same.Tie as tie

@@ -1,6 +1,6 @@
 -- `lvs_constraints::bound_same_type` meets its contract. Assumes nothing.
 use borrow.Author.Needs.{needs}
-use mathlib.Core.Path.{_≡_, refl, sym, _∙_}
+use mathlib.Core.Path.{sym, _∙_}
 use Rattle.lvs_constraints.proofs.Bindings.{tag-none, tag-some}
 use Rattle.lvs_constraints.proofs.bound_same_type.Statement.{statement}
 use Rattle.lvs_constraints.proofs.bound_same_type.Tie as tie

@@ -1,9 +1,9 @@
 -- `lvs_constraints::constraint_holds` meets its contract. The invariant: whether an option from this place on holds is whether any does. Assumes nothing.
-use mathlib.Core.Path.{_≡_, refl, sym, _∙_}
+use mathlib.Core.Path.{_≡_, refl, sym}
 use native.Mathlib.Omega.{arith}
 use borrow.Author.Needs.{needs}
 use Prim.Native.Nat.{_-_}
-use lib.ListN.{length, drop}
+use lib.ListN.{length}
 use Rattle.tlv.proofs.Cuts.{seen}
 use Rattle.lvs_fields.proofs.Elements.{stop-end, stop-malformed}
 use Rattle.lvs_spec.specs.Model.{componentOf, constraintOf}

@@ -1,10 +1,10 @@
 -- `lvs_constraints::constraints_hold` meets its contract. The invariant: whether all from this place on hold is whether all do. Assumes nothing.
-use mathlib.Core.Path.{_≡_, refl, sym, _∙_}
+use mathlib.Core.Path.{_≡_, refl, sym}
 use native.Mathlib.Omega.{arith}
 use borrow.Author.Needs.{needs}
 use borrow.Author.Tests.{not-true, not-false}
 use Prim.Native.Nat.{_-_}
-use lib.ListN.{length, drop}
+use lib.ListN.{length}
 use Rattle.tlv.proofs.Cuts.{seen}
 use Rattle.lvs_fields.proofs.Elements.{stop-end, stop-malformed}
 use Rattle.lvs_spec.specs.Lists.{all}

@@ -1,5 +1,5 @@
 -- `lvs_constraints::option_holds` meets its contract. The invariant: whether a term from this place on holds is whether any does. Assumes nothing.
-use mathlib.Core.Path.{_≡_, refl, sym, _∙_}
+use mathlib.Core.Path.{_≡_, refl, sym}
 use native.Mathlib.Omega.{arith}
 use borrow.Author.Needs.{needs}
 use Prim.Native.Nat.{_-_}

@@ -1,7 +1,7 @@
 -- `lvs_constraints::passes` meets its contract. Assumes nothing.
 use borrow.Author.Needs.{needs}
 use borrow.Author.Tests.{not-true, not-false}
-use mathlib.Core.Path.{sym, _∙_}
+use mathlib.Core.Path.{_∙_}
 use Rattle.lvs_constraints.proofs.Bindings.{passes-unbound, passes-bound, passes-other}
 use Rattle.lvs_constraints.proofs.passes.Statement.{statement}
 use Rattle.lvs_constraints.proofs.passes.Tie as tie

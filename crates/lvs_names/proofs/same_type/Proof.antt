@@ -1,6 +1,6 @@
 -- `lvs_names::same_type` meets its contract. Assumes nothing.
 use borrow.Author.Needs.{needs}
-use mathlib.Core.Path.{sym, _∙_}
+use mathlib.Core.Path.{sym}
 use Rattle.lvs_names.proofs.Names.{type-is}
 use Rattle.lvs_names.proofs.same_type.Statement.{statement}
 use Rattle.lvs_names.proofs.same_type.Tie as tie

@@ -1,6 +1,6 @@
 -- `lvs_names::value_size` meets its contract. Assumes nothing.
 use borrow.Author.Needs.{needs}
-use mathlib.Core.Path.{sym, _∙_}
+use mathlib.Core.Path.{sym}
 use Rattle.lvs_names.proofs.Names.{size-is}
 use Rattle.lvs_names.proofs.value_size.Statement.{statement}
 use Rattle.lvs_names.proofs.value_size.Tie as tie

@@ -1,6 +1,5 @@
 -- `lvs_walk::cross` meets its contract. Assumes nothing.
 use borrow.Author.Needs.{needs}
-use mathlib.Core.Path.{_≡_}
 use Rattle.lvs_walk.proofs.cross.Statement.{statement}
 use Rattle.lvs_walk.proofs.cross.Tie as tie
 

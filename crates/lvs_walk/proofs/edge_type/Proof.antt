@@ -1,5 +1,4 @@
 -- `lvs_walk::edge_type` meets its contract. Assumes nothing.
-use mathlib.Core.Path.{_≡_, refl, sym, _∙_}
 use Rattle.lvs_walk.specs.Crossing.{edgeType}
 use Rattle.lvs_walk.proofs.edge_type.Statement.{statement}
 use Rattle.lvs_walk.proofs.edge_type.Tie as tie

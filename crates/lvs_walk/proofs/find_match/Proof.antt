@@ -1,14 +1,12 @@
 -- `lvs_walk::find_match` meets its contract. Assumes nothing.
 use borrow.Author.Needs.{needs}
-use mathlib.Core.Path.{_≡_, refl, sym, ap, _∙_}
+use mathlib.Core.Path.{refl, ap}
 use native.Mathlib.Omega.{arith}
 use lib.ListN.{length}
-use Rattle.lvs_spec.specs.Limits.{bindingWords}
 use Rattle.lvs_spec.specs.Model.{modelOf}
 use Rattle.lvs_names.specs.Rows.{rowFrom}
 use Rattle.lvs_walk.specs.Nodes.{placeWords}
 use Rattle.lvs_walk.specs.Hits.{nameFor}
-use mathlib.Core.List.{[]}
 use Rattle.lvs_walk.proofs.Answers.{none-bound, match-first}
 use Rattle.lvs_walk.proofs.find_match.Statement.{statement}
 use Rattle.lvs_walk.proofs.find_match.Tie as tie

@@ -1,9 +1,6 @@
 -- `lvs_walk::find_pair` meets its contract. Assumes nothing.
 use borrow.Author.Needs.{needs}
-use mathlib.Core.Path.{_≡_, refl, sym, ap, _∙_}
-use native.Mathlib.Omega.{arith}
-use lib.ListN.{length}
-use Rattle.lvs_spec.specs.Limits.{bindingWords}
+use mathlib.Core.Path.{refl}
 use Rattle.lvs_spec.specs.Model.{modelOf}
 use Rattle.lvs_names.specs.Rows.{rowFrom}
 use Rattle.lvs_walk.specs.Nodes.{placeWords}

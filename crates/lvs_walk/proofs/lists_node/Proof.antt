@@ -1,6 +1,6 @@
 -- `lvs_walk::lists_node` meets its contract. Assumes nothing.
 use borrow.Author.Needs.{needs}
-use mathlib.Core.Path.{sym, _∙_}
+use mathlib.Core.Path.{_∙_}
 use Rattle.lvs_walk.proofs.Nodes.{lists-body}
 use Rattle.lvs_walk.proofs.Places.{body-of-part}
 use Rattle.lvs_walk.proofs.lists_node.Statement.{statement}

@@ -1,5 +1,5 @@
 -- `lvs_walk::lists_signer` meets its contract. The invariant: whether a signer from this place on is the one is whether any is. Assumes nothing.
-use mathlib.Core.Path.{_≡_, refl, sym, _∙_}
+use mathlib.Core.Path.{_≡_, refl, sym}
 use native.Mathlib.Omega.{arith}
 use borrow.Author.Needs.{needs}
 use Prim.Native.Nat.{_-_}

@@ -1,7 +1,7 @@
 -- `lvs_walk::node_places` meets its contract. The invariant `Filled`: the words of the first n Nodes are there. Assumes nothing.
 use borrow.Author.Needs.{needs}
 use Prim.Native.Nat.{_-_, _≤_}
-use mathlib.Core.Path.{_≡_, sym, ap, _∙_}
+use mathlib.Core.Path.{sym, ap, _∙_}
 use native.Mathlib.Omega.{arith}
 use lib.ListN.{length, length-set}
 use Rattle.tlv.proofs.Cuts.{seen}

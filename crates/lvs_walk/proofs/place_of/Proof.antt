@@ -1,6 +1,5 @@
 -- `lvs_walk::place_of` meets its contract. Assumes nothing.
 use borrow.Author.Needs.{needs}
-use native.Mathlib.Omega.{arith}
 use Rattle.lvs_walk.proofs.Words.{place-none, place-here, place-there}
 use Rattle.lvs_walk.proofs.place_of.Statement.{statement}
 use Rattle.lvs_walk.proofs.place_of.Tie as tie

@@ -1,5 +1,4 @@
 -- `lvs_walk::write_words` meets its contract. The invariant `Written`: the first 2i words are those of the match. Assumes nothing.
-use mathlib.Core.Path.{_≡_, refl, sym, _∙_}
 use native.Mathlib.Omega.{arith}
 use borrow.Author.Needs.{needs}
 use Prim.Native.Nat.{_+_, _-_, _*_}

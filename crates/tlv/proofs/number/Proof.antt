@@ -1,8 +1,8 @@
 -- `tlv::number` meets its contract: the tests that led to each return say which case of `numberAt` holds. Assumes nothing.
 use borrow.Author.Needs.{needs}
 use native.Mathlib.Omega.{arith}
-use mathlib.Core.Path.{_≡_, sym, _∙_}
-use Prim.Native.Nat.{ℕ, _+_}
+use mathlib.Core.Path.{_≡_, sym}
+use Prim.Native.Nat.{_+_}
 use lib.ListN.{take, drop, getD}
 use Rattle.tlv.specs.Bytes.{bigEndian}
 use Rattle.tlv.specs.Number.{width}

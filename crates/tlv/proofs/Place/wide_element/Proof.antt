@@ -1,7 +1,7 @@
 -- `tlv::Place::wide_element` meets its contract: the tests that led to each return say which case of `readAt` holds. Assumes nothing.
 use borrow.Author.Needs.{needs}
 use native.Mathlib.Omega.{arith}
-use mathlib.Core.Path.{sym, _∙_}
+use mathlib.Core.Path.{sym}
 use Rattle.tlv.proofs.Numbers.{numbered}
 use Rattle.tlv.proofs.Elements.{at-end, no-type, malformed-type, no-length, too-long, found, type-low, type-high, type-ok}
 use Rattle.tlv.proofs.Place.wide_element.Statement.{statement}
