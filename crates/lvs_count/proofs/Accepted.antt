@@ -1,0 +1,82 @@
+-- Of a model that the verdict accepts, the count of its Nodes is the number that the verdict gives. Assumes nothing.
+use mathlib.Core.Path.{_≡_, refl, sym, ap, _∙_}
+use mathlib.Core.Bool.{Bool, true, false}
+use mathlib.Core.List.{List, [], _∷_}
+use mathlib.Core.Option.{Option, none, some}
+use Prim.Native.Nat.{ℕ, _+_}
+use native.Mathlib.Omega.{arith}
+use lib.Dec.{eqb}
+use lib.ListN.{length, length-map, length-append}
+use Rattle.tlv.specs.Element.{Element, Cuts, done, nexts, also, whole, split, cuts}
+use Rattle.tlv_reader.specs.declared.Count.the-variants.{Elements}
+use Rattle.tlv_reader.specs.Count.{one, ofType, countFrom, countOf}
+use Rattle.lvs_spec.specs.Lists.{when, each}
+use Rattle.lvs_spec.specs.Types as type
+use Rattle.lvs_spec.specs.Grammar.{model, order}
+use Rattle.lvs_spec.specs.WellFormed.{tooLong, otherVersion, wellFormed, wellFormedBy}
+use Rattle.lvs_spec.specs.Model.{insideOf, insides, nodeOf, modelOf}
+use Rattle.lvs_spec.specs.Verdict.{accepted, refused, decide, rules, judge, reading, verdict}
+use Rattle.lvs_spec.proofs.Grammar.{eachCut-nexts, Row, row}
+
+not-refused : (r i n : ℕ) → refused r i ≡ accepted n → ⊥
+not-refused r i n p = let z : _≡_ {A = ℕ} 0 1 = cc in omega arith
+
+decide-count : (rs : List (ℕ × Option ℕ)) (count n : ℕ) → decide rs count ≡ accepted n → count ≡ n
+unfolding decide
+decide-count [] count n h = cc
+decide-count (r ∷ rs) count n h = go (r .1) refl (decide-count rs count n)
+  where
+    go : (o : Option ℕ) → r .1 ≡ o → (decide rs count ≡ accepted n → count ≡ n) → count ≡ n
+    go none q rec = rec (rw (q, decide) at h)
+    go (some i) q rec = absurd (not-refused (r .0) i n (rw (q, decide) at h))
+
+-- what an accepted model is
+record Good (b : List ℕ) (n : ℕ) : Type 0 where
+  formed : wellFormed b ≡ true
+  count : length (modelOf b .nodes) ≡ n
+
+good : (b : List ℕ) (n : ℕ) → verdict b ≡ accepted n → Good b n
+unfolding verdict reading judge
+good b n h = go (tooLong b) (otherVersion b) (wellFormed b) refl refl refl
+  where
+    go : (x y z : Bool) → tooLong b ≡ x → otherVersion b ≡ y → wellFormed b ≡ z → Good b n
+    go true y z p q r = absurd (not-refused 1 0 n (rw (p, verdict, reading) at h))
+    go false true z p q r = absurd (not-refused 3 0 n (rw (p, q, verdict, reading) at h))
+    go false false false p q r = absurd (not-refused 2 0 n (rw (p, q, r, verdict, reading) at h))
+    go false false true p q r = record { formed = r; count = decide-count (rules (modelOf b)) _ n (rw (p, q, r, verdict, reading) at h) }
+
+whole-nexts : (es : List Element) → whole (nexts es done) ≡ some es
+whole-nexts [] = refl
+whole-nexts (e ∷ es) = ap (also e) (whole-nexts es)
+
+one-when : {A : Type 0} (x : Bool) (a : A) → length (when x a) ≡ one x
+unfolding one
+one-when true a = refl
+one-when false a = refl
+
+-- how many insides of type t there are
+insides-count : (t : ℕ) (es : List Element) → length (each (insideOf t) es) ≡ ofType t es
+unfolding ofType insideOf
+insides-count t [] = refl
+insides-count t (e ∷ es) = length-append (insideOf t e) (each (insideOf t) es) ∙ (λ i. one-when (eqb t (e .type)) (e .inside) i + insides-count t es i)
+
+module _ (b : List ℕ) (es : List Element) (is : cuts b ≡ nexts es done) where
+  count-is : countOf type.Node b ≡ Elements (ofType type.Node es)
+  unfolding countOf split
+  count-is = ap (λ (c : Cuts). countFrom type.Node (whole c)) is ∙ ap (countFrom type.Node) (whole-nexts es)
+
+  insides-is : insides type.Node b ≡ each (insideOf type.Node) es
+  unfolding insides
+  insides-is = rw is (eachCut-nexts (insideOf type.Node) es)
+
+  nodes-is : length (modelOf b .nodes) ≡ ofType type.Node es
+  unfolding modelOf
+  nodes-is = length-map (insides type.Node b) nodeOf ∙ ap length insides-is ∙ insides-count type.Node es
+
+-- THE COUNT IS THE VERDICT'S
+pub accepted-count : (b : List ℕ) (n : ℕ) → verdict b ≡ accepted n → countOf type.Node b ≡ Elements n
+unfolding wellFormed wellFormedBy
+accepted-count b n h =
+    let g = good b n h in
+    let r : Row (wellFormedBy 6) model (order model) (cuts b) = row (wellFormedBy 6) model (order model) (cuts b) (g .formed) in
+    count-is b (r .elements) (r .cut-is) ∙ ap Elements (sym (nodes-is b (r .elements) (r .cut-is)) ∙ g .count)
