@@ -1,6 +1,7 @@
 // Names and their components (document 01, "Names and the walk"), read at their places and never copied.
 //
-// A layer below the public calls: any bytes may be a name, and `requires` asks only that the refusal numbers are ones of document 01.
+// A layer below the public calls: any bytes may be a name. `requires` asks that refusal numbers are ones of document 01, and for a component
+// that is cut out.
 ghost use mathlib.Core.Path.{_≡_};
 ghost use Prim.Native.Nat.{_+_, _≤_};
 ghost use lib.Dec.{eqb};
