@@ -36,7 +36,7 @@ use lvs_spec::types::VALUE_EDGE;
 use tlv::Place;
 use tlv::Read;
 
-const PLACE_WORDS: usize = 512;
+const PLACE_WORDS: usize = lvs_spec::MAX_NODES * 2;
 
 // What a PatternEdge leads to and binds, and where in it the Constraints are from.
 pub struct PatternFields {
@@ -553,7 +553,7 @@ pub fn write_words(name: &[u8], slots: &[u32], buffer: &mut [u32]) -> u32
 {
     let mut bound: u32 = 0;
     let mut i: usize = 0;
-    while i < 128 {
+    while i < lvs_spec::MAX_TAG as usize {
         let start = slots[i * 2];
         let size = slots[i * 2 + 1];
         bound += one_if_bound(size);
