@@ -69,7 +69,7 @@ pub fn match_name(model: &[u8], name: &[u8], buffer: &mut [u32]) -> MatchAnswer
                 Found::Nothing => MatchAnswer::NoMatch,
                 Found::At(node, _) => MatchAnswer::Match {
                     node,
-                    bound: lvs_walk::write_words(name, &slots, buffer),
+                    bound: lvs_walk::words::write_words(name, &slots, buffer),
                 },
             }
         }

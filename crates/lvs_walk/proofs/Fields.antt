@@ -17,7 +17,7 @@ use Rattle.lvs_fields.proofs.Elements.{insides-found, insides-other}
 use Rattle.lvs_constraints.specs.Bindings.{SlotOf, EdgeWith}
 use Rattle.lvs_constraints.specs.declared.Slot.{Slot}
 use Rattle.lvs_walk.specs.Crossing.{plainFields, FieldsOf}
-use Rattle.lvs_walk.specs.declared.PatternFields.{PatternFields}
+use Rattle.lvs_walk.specs.declared.edges.PatternFields.{PatternFields}
 
 -- ---- the test
 

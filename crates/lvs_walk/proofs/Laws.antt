@@ -20,18 +20,18 @@ use Rattle.lvs_names.specs.declared.ComponentRead.{ComponentRead}
 use Rattle.lvs_names.specs.declared.ComponentRead.the-variants.{Component as AComponent, End as Ended}
 use Rattle.lvs_constraints.specs.Bindings.{textFrom, placeIn, bindingsOf}
 use Rattle.lvs_walk.specs.Nodes.{nodeInside, inBody, EdgeAt, EdgeFrom}
-use Rattle.lvs_walk.specs.declared.EdgeRead.{EdgeRead}
-use Rattle.lvs_walk.specs.declared.EdgeRead.the-variants.{Edge, End}
+use Rattle.lvs_walk.specs.declared.edges.EdgeRead.{EdgeRead}
+use Rattle.lvs_walk.specs.declared.edges.EdgeRead.the-variants.{Edge, End}
 use Rattle.lvs_walk.specs.Hits.{Hit, signed, worth, hits, nameFor, textPlace, First}
 use Rattle.lvs_walk.specs.Crossing.{Stands, componentAt, edgeType, crossing, matchOf, undone, Crossed}
 use Rattle.lvs_walk.specs.declared.Goal.{Goal}
 use Rattle.lvs_walk.specs.declared.Goal.the-variants.{Match as AnyMatch, Packet, Key}
 use Rattle.lvs_walk.specs.declared.Found.{Found}
 use Rattle.lvs_walk.specs.declared.Found.the-variants.{Nothing, At}
-use Rattle.lvs_walk.specs.declared.Crossing.{Crossing}
-use Rattle.lvs_walk.specs.declared.Crossing.the-variants.{Shut, Open}
-use Rattle.lvs_walk.specs.declared.Undo.{Undo}
-use Rattle.lvs_walk.proofs.Nodes.{node-at}
+use Rattle.lvs_walk.specs.declared.edges.Crossing.{Crossing}
+use Rattle.lvs_walk.specs.declared.edges.Crossing.the-variants.{Shut, Open}
+use Rattle.lvs_walk.specs.declared.edges.Undo.{Undo}
+use Rattle.lvs_walk.proofs.Bodies.{node-at}
 
 -- ---- the components that are left
 

@@ -1,7 +1,7 @@
-pub mod Nodes
-pub mod Edges
+pub mod Bodies
+pub mod Crossed
 pub mod Fields
 pub mod Laws
-pub mod Words
+pub mod Written
 pub mod Places
 pub mod Answers

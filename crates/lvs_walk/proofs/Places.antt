@@ -17,7 +17,7 @@ use Rattle.lvs_spec.specs.Model.{insides}
 use Rattle.lvs_fields.specs.declared.Part.{Part}
 use Rattle.lvs_fields.proofs.Elements.{Stop, insides-found, insides-other, insides-stop}
 use Rattle.lvs_walk.specs.Nodes.{nodeInside, BodyFrom, BodyPart, placeWords, noPlaces, partAt, NodesAt}
-use Rattle.lvs_walk.proofs.Nodes.{body-part, no-body}
+use Rattle.lvs_walk.proofs.Bodies.{body-part, no-body}
 
 abbrev nothing : Part
 nothing = record { start = 0; end = 0 }

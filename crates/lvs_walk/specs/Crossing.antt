@@ -11,10 +11,10 @@ use Rattle.lvs_spec.specs.Names.{Component}
 use Rattle.lvs_spec.specs.Walk.{Bindings, Match, crossValue, crossPattern}
 use Rattle.lvs_names.specs.Contents.{Alone}
 use Rattle.lvs_constraints.specs.Bindings.{textFrom, placeIn, bindingsOf}
-use Rattle.lvs_walk.specs.declared.PatternFields.{PatternFields}
-use Rattle.lvs_walk.specs.declared.Undo.{Undo}
-use Rattle.lvs_walk.specs.declared.Crossing.{Crossing}
-use Rattle.lvs_walk.specs.declared.Crossing.the-variants.{Shut, Open}
+use Rattle.lvs_walk.specs.declared.edges.PatternFields.{PatternFields}
+use Rattle.lvs_walk.specs.declared.edges.Undo.{Undo}
+use Rattle.lvs_walk.specs.declared.edges.Crossing.{Crossing}
+use Rattle.lvs_walk.specs.declared.edges.Crossing.the-variants.{Shut, Open}
 
 -- c is the bytes of the component at a place of the two names' text, and place and size fit a word
 pub record Stands (packet key : List ℕ) (at : ℕ) (c : List ℕ) : Type 0 where

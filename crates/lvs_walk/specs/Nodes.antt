@@ -9,8 +9,8 @@ use Rattle.lvs_spec.specs.Limits.{maxNodes}
 use Rattle.lvs_spec.specs.Types as type
 use Rattle.lvs_spec.specs.Model.{insides}
 use Rattle.lvs_fields.specs.declared.Part.{Part}
-use Rattle.lvs_walk.specs.declared.EdgeRead.{EdgeRead}
-use Rattle.lvs_walk.specs.declared.EdgeRead.the-variants.{Edge, End}
+use Rattle.lvs_walk.specs.declared.edges.EdgeRead.{EdgeRead}
+use Rattle.lvs_walk.specs.declared.edges.EdgeRead.the-variants.{Edge, End}
 
 -- the inside of the Node with this index; nothing where there is none
 unfoldable pub nodeInside : List ℕ → ℕ → List ℕ

@@ -18,12 +18,12 @@ use Rattle.lvs_walk.proofs.walk.Reads as walk
 use Rattle.lvs_walk.proofs.walk.Kinds as walk-kinds
 use Rattle.lvs_walk.proofs.+walk.Lts-walk as walk-lts
 use Rattle.lvs_names.proofs.component_at.Reads as component-at-reads
-use Rattle.lvs_walk.proofs.cross.Reads as cross-reads
-use Rattle.lvs_walk.proofs.edge_from.Reads as edge-from-reads
-use Rattle.lvs_walk.proofs.lists_node.Reads as lists-node-reads
+use Rattle.lvs_walk.proofs.edges.cross.Reads as cross-reads
+use Rattle.lvs_walk.proofs.edges.edge_from.Reads as edge-from-reads
+use Rattle.lvs_walk.proofs.nodes.lists_node.Reads as lists-node-reads
 use Rattle.lvs_walk.proofs.name_for.Reads as name-for-reads
-use Rattle.lvs_walk.proofs.node_part.Reads as node-part-reads
-use Rattle.lvs_walk.proofs.put_back.Reads as put-back-reads
+use Rattle.lvs_walk.proofs.nodes.node_part.Reads as node-part-reads
+use Rattle.lvs_walk.proofs.edges.put_back.Reads as put-back-reads
 use Rattle.lvs_walk.proofs.text_place.Reads as text-place-reads
 use Rattle.lvs_walk.proofs.+walk.{statement}
 use Rattle.lvs_walk.proofs.+walk.Tie.{close}

@@ -1,0 +1,48 @@
+-- `lvs_walk::edges::pattern_fields` meets its contract. Assumes nothing.
+use borrow.Author.Needs.{needs}
+use mathlib.Core.Path.{sym, _∙_}
+use native.Mathlib.Omega.{arith}
+use Rattle.lvs_walk.proofs.Fields.{plain-is, plain-fields, any-fields}
+use Rattle.lvs_walk.proofs.edges.pattern_fields.Statement.{statement}
+use Rattle.lvs_walk.proofs.edges.pattern_fields.Tie as tie
+
+plain-fields-requires : tie.Need-plain-fields-requires
+plain-fields-requires c κs = search needs
+
+shared-slice-read-t4 : tie.Need-shared-slice-read-t4
+shared-slice-read-t4 c = omega (arith, plain-is _ (sym (c .before .before .plain-fields .ensures) ∙ c .before .if1 .taken) .long)
+
+cast-t5 : tie.Need-cast-t5
+cast-t5 c = omega (arith, c .shared-slice-known2 .given 2)
+
+shared-slice-read-t7 : tie.Need-shared-slice-read-t7
+shared-slice-read-t7 c = omega (arith, plain-is _ (sym (c .before .before .before .plain-fields .ensures) ∙ c .before .before .if1 .taken) .long)
+
+cast-t8 : tie.Need-cast-t8
+cast-t8 c = omega (arith, c .shared-slice-known3 .given 5)
+
+returns : tie.Need-returns
+returns c = plain-fields (plain-is _ (sym (c .before .before .before .plain-fields .ensures) ∙ c .before .before .if1 .taken))
+
+number-in-requires : tie.Need-number-in-requires
+number-in-requires c κs = search needs
+
+number-in-requires-2 : tie.Need-number-in-requires-2
+number-in-requires-2 c κs = search needs
+
+returns-2 : tie.Need-returns-2
+returns-2 c = any-fields _ (c .before .number-in .ensures) (c .number-in2 .ensures)
+
+pub pattern-fields-spec : {M : Type 1} → statement M
+pattern-fields-spec =
+    tie.close
+    (tie.spec
+    plain-fields-requires
+    shared-slice-read-t4
+    cast-t5
+    shared-slice-read-t7
+    cast-t8
+    returns
+    number-in-requires
+    number-in-requires-2
+    returns-2)
