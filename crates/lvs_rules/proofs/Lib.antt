@@ -1,5 +1,5 @@
 pub mod Least
-pub mod Parents
+pub mod ParentWords
 pub mod Nodes
 pub mod Scan
 pub mod Verdict

@@ -13,7 +13,7 @@ use Rattle.lvs_spec.specs.Model.{Model, Node, ValueEdge, PatternEdge, Constrain
 use Rattle.lvs_spec.specs.Verdict.{destinations, options, terms, callsIn, calls, argumentTags, termTags, nodeTags, namesNone, badTag, notParent, badCall}
 use Rattle.lvs_rules.specs.Lowest.{noRule, broken, leastOf, tagRule, argumentRule, callRule, termRule, optionRule, constraintRule, parentIndex, signerRule, destinationRule, valueEdgeRule, patternEdgeRule, nodeRule}
 use Rattle.lvs_rules.proofs.Least.{min-assoc, min-swap, broken-most, least-same, least-append, least-both, least-any, least-map, least-each}
-use Rattle.lvs_rules.proofs.Parents.{none-named, destination-is}
+use Rattle.lvs_rules.proofs.ParentWords.{none-named, destination-is}
 
 tag-most : (t : ℕ) → tagRule t ≤ noRule
 unfolding tagRule

@@ -1,42 +1,43 @@
 // Rules 4 to 12 of the verdict, in one pass over the Nodes that keeps the lowest rule broken and the first Node that breaks it.
 // Any bytes have an answer: the definitions are total.
-ghost use mathlib.Core.Path.{_≡_};
-ghost use mathlib.Core.List.{map};
-ghost use mathlib.Core.Bool.{not};
-ghost use mathlib.Core.Option.{some};
-ghost use Prim.Native.Nat.{_≤_, _<_, min};
-ghost use lib.Dec.{leb, eqb};
-ghost use lib.ListN.{length, take};
-ghost use Rattle.lvs_spec.specs.Limits.{maxNodes};
-ghost use Rattle.lvs_spec.specs.Model.{modelOf, nodeOf, callOf, optionOf, argumentOf, insides, theInteger};
-ghost use Rattle.lvs_spec.specs.Types as type;
-ghost use Rattle.lvs_spec.specs.Verdict.{badCall, judge};
-ghost use Rattle.lvs_rules.specs.Lowest.{broken, leastOf, tagRule, argumentRule, destinationRule, signerRule, nodeRule, parentFrom, parentIndex};
-ghost use Rattle.lvs_rules.specs.Sorts.{typeOf, itemRule};
-ghost use Rattle.lvs_rules.specs.Faults.{earlier, lowest, verdictOf, judgedOf};
-use lvs_fields::Function;
+mod numbers;
+mod options;
+mod parents;
+
 use lvs_spec::types::CONSTRAINT;
 use lvs_spec::types::CONSTRAINT_OPTION;
-use lvs_spec::types::FN_ID;
 use lvs_spec::types::NODE;
 use lvs_spec::types::NODE_ID;
-use lvs_spec::types::PARENT;
 use lvs_spec::types::PATTERN_EDGE;
 use lvs_spec::types::SIGN_CONSTRAINT;
 use lvs_spec::types::TAG;
 use lvs_spec::types::TAG_SYMBOL;
 use lvs_spec::types::USER_FN_ARG;
 use lvs_spec::types::USER_FN_CALL;
-use lvs_spec::types::VALUE;
 use lvs_spec::types::VALUE_EDGE;
+use numbers::NO_RULE;
+use numbers::destination_rule;
+use numbers::id_rule;
+use numbers::signer_rule;
+use numbers::start_rule;
+use numbers::tag_rule;
+use options::argument_rule;
+use options::arguments_rule;
+use options::count_of;
+use options::terms_rule;
+use parents::parents_of;
 use tlv::Place;
 use tlv::Read;
-
-// Above every rule: none is broken.
-const NO_RULE: u32 = 13;
-
-// No Node's index: the Parent of a Node that has none.
-const NO_NODE: u32 = lvs_spec::MAX_NODES as u32;
+ghost use mathlib.Core.Path.{_≡_};
+ghost use Prim.Native.Nat.{_≤_, _<_, min};
+ghost use lib.ListN.{length};
+ghost use Rattle.lvs_spec.specs.Limits.{maxNodes};
+ghost use Rattle.lvs_spec.specs.Model.{modelOf, nodeOf, insides};
+ghost use Rattle.lvs_spec.specs.Types as type;
+ghost use Rattle.lvs_spec.specs.Verdict.{judge};
+ghost use Rattle.lvs_rules.specs.Lowest.{leastOf, nodeRule};
+ghost use Rattle.lvs_rules.specs.Sorts.{typeOf, itemRule};
+ghost use Rattle.lvs_rules.specs.Faults.{earlier, lowest, verdictOf, judgedOf};
 
 pub enum Judged {
     Accepted { nodes: u32 },
@@ -98,80 +99,6 @@ fn conclude(fault: Fault, whole: u32, nodes: u32) -> Judged
     Judged::Refused {
         rule,
         node: fault.node,
-    }
-}
-
-// Each Node's Parent, by the Node's index.
-fn parents_of(model: &[u8]) -> [u32; lvs_spec::MAX_NODES]
-    requires { ⌜ length (insides type.Node (now model)) ≤ maxNodes ⌝ }
-    ensures { λ r.
-        ⌜
-        take (length (insides type.Node (now (model .entry)))) r ≡
-        map (λ b. parentIndex (nodeOf b)) (insides type.Node (now (model .entry)))
-        ⌝ }
-{
-    let mut parents = [0u32; lvs_spec::MAX_NODES];
-    let mut n = 0;
-    let mut place = Place { at: 0 };
-    loop {
-        match place.element(model) {
-            Read::Found {
-                typ,
-                start,
-                end,
-                next,
-            } => {
-                place = next;
-                if typ == NODE {
-                    parents[n] = parent_of(&model[start..end]);
-                    n += 1;
-                }
-            }
-            Read::End => {
-                return parents;
-            }
-            Read::Malformed => {
-                return parents;
-            }
-        }
-    }
-}
-
-// The index of a Node's Parent; MAX_NODES where it has none or one that names no Node.
-fn parent_of(node: &[u8]) -> u32
-    ensures { λ r. ⌜ r ≡ parentIndex (nodeOf (now (node .entry))) ⌝ }
-{
-    let mut place = Place { at: 0 };
-    loop {
-        match place.element(node) {
-            Read::Found {
-                typ,
-                start,
-                end,
-                next,
-            } => {
-                place = next;
-                if typ == PARENT {
-                    return index_of(lvs_fields::number_of(&node[start..end]));
-                }
-            }
-            Read::End => {
-                return NO_NODE;
-            }
-            Read::Malformed => {
-                return NO_NODE;
-            }
-        }
-    }
-}
-
-fn index_of(p: u64) -> u32
-    ensures { λ r. ⌜ r ≡ parentFrom (some p) ⌝ }
-{
-    if p < lvs_spec::MAX_NODES as u64 {
-        p as u32
-    } else {
-        NO_NODE
     }
 }
 
@@ -300,183 +227,6 @@ fn type_of(sort: Sort) -> u32
         Sort::PatternEdge => PATTERN_EDGE,
         Sort::Signer => SIGN_CONSTRAINT,
         Sort::Symbol => TAG_SYMBOL,
-    }
-}
-
-// Rule 5 of the Tag in an argument; an argument with neither Value nor Tag counts as Tag 0.
-fn argument_rule(b: &[u8]) -> u32
-    ensures { λ r. ⌜ r ≡ argumentRule (argumentOf (now (b .entry))) ⌝ }
-{
-    let mut place = Place { at: 0 };
-    loop {
-        match place.element(b) {
-            Read::Found {
-                typ,
-                start,
-                end,
-                next,
-            } => {
-                place = next;
-                if typ == VALUE {
-                    return NO_RULE;
-                }
-                if typ == TAG {
-                    return tag_rule(lvs_fields::number_of(&b[start..end]));
-                }
-            }
-            Read::End => {
-                return tag_rule(0);
-            }
-            Read::Malformed => {
-                return tag_rule(0);
-            }
-        }
-    }
-}
-
-// Rule 12 of a call.
-fn arguments_rule(call: &[u8]) -> u32
-    ensures { λ r. ⌜ r ≡ broken 12 (badCall (callOf (now (call .entry)))) ⌝ }
-{
-    let part = lvs_fields::inside_of(call, FN_ID);
-    let start = part.start;
-    let end = part.end;
-    let n = count_of(call, USER_FN_ARG);
-    match lvs_fields::function_of(&call[start..end]) {
-        Function::Eq => number_rule(n, 1),
-        Function::EqType => number_rule(n, 1),
-        Function::IsValidId => number_rule(n, 0),
-        Function::IsValidYear => number_rule(n, 0),
-        Function::Unknown => 12,
-    }
-}
-
-fn number_rule(n: usize, arity: usize) -> u32
-    ensures { λ r. ⌜ r ≡ broken 12 (not (eqb n arity)) ⌝ }
-{
-    if n == arity { NO_RULE } else { 12 }
-}
-
-// Rule 10 of a ConstraintOption.
-fn terms_rule(b: &[u8]) -> u32
-    ensures { λ r. ⌜ r ≡ broken 10 (not (eqb (length (optionOf (now (b .entry)))) 1)) ⌝ }
-{
-    let n = term_count(b);
-    if n == 1 { NO_RULE } else { 10 }
-}
-
-// How many Values, Tags and UserFnCalls a ConstraintOption holds.
-fn term_count(b: &[u8]) -> usize
-    ensures { λ r. ⌜ r ≡ length (optionOf (now (b .entry))) ⌝ }
-{
-    let mut n = 0;
-    let mut place = Place { at: 0 };
-    loop {
-        match place.element(b) {
-            Read::Found {
-                typ,
-                start: _,
-                end: _,
-                next,
-            } => {
-                place = next;
-                match typ {
-                    VALUE | TAG | USER_FN_CALL => {
-                        n += 1;
-                    }
-                    _ => {}
-                }
-            }
-            Read::End => {
-                return n;
-            }
-            Read::Malformed => {
-                return n;
-            }
-        }
-    }
-}
-
-// How many elements of a type `s` holds.
-fn count_of(s: &[u8], wanted: u32) -> usize
-    ensures { λ r. ⌜ r ≡ length (insides wanted (now (s .entry))) ⌝ }
-{
-    let mut n = 0;
-    let mut place = Place { at: 0 };
-    loop {
-        match place.element(s) {
-            Read::Found {
-                typ,
-                start: _,
-                end: _,
-                next,
-            } => {
-                place = next;
-                if typ == wanted {
-                    n += 1;
-                }
-            }
-            Read::End => {
-                return n;
-            }
-            Read::Malformed => {
-                return n;
-            }
-        }
-    }
-}
-
-// Rule 5: a Tag is 1 to 128.
-fn tag_rule(tag: u64) -> u32
-    ensures { λ r. ⌜ r ≡ tagRule tag ⌝ }
-{
-    if tag == 0 {
-        return 5;
-    }
-    if lvs_spec::MAX_TAG < tag {
-        return 5;
-    }
-    NO_RULE
-}
-
-// Rule 6: a NodeId is its Node's index.
-fn id_rule(id: u64, i: u32) -> u32
-    ensures { λ r. ⌜ r ≡ broken 6 (not (eqb id i)) ⌝ }
-{
-    if id == i as u64 { NO_RULE } else { 6 }
-}
-
-// Rule 7: StartId names a Node; there are `n`.
-fn start_rule(model: &[u8], n: usize) -> u32
-    ensures { λ r. ⌜ r ≡ broken 7 (leb n (theInteger type.NodeId (now (model .entry)))) ⌝ }
-{
-    let start = lvs_fields::number_in(model, NODE_ID);
-    if n as u64 <= start { 7 } else { NO_RULE }
-}
-
-// Rules 8 and 11: a destination names a Node, whose Parent is the Node with index `i`.
-fn destination_rule(d: u64, i: u32, parents: &[u32]) -> u32
-    ensures { λ r. ⌜ r ≡ destinationRule (now (parents .entry)) i d ⌝ }
-{
-    if parents.len() as u64 <= d {
-        return 8;
-    }
-    let at = d as usize;
-    let parent = parents[at];
-    if parent != i {
-        return 11;
-    }
-    NO_RULE
-}
-
-// Rule 9: a SignConstraint names a Node.
-fn signer_rule(signer: u64, parents: &[u32]) -> u32
-    ensures { λ r. ⌜ r ≡ signerRule (now (parents .entry)) signer ⌝ }
-{
-    if parents.len() as u64 <= signer {
-        9
-    } else {
-        NO_RULE
     }
 }
 

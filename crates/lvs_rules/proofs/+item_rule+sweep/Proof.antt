@@ -20,13 +20,13 @@ use Rattle.lvs_rules.proofs.sweep.Kinds as sweep-kinds
 use Rattle.lvs_rules.proofs.+item_rule+sweep.Lts-sweep as sweep-lts
 use Rattle.lvs_fields.proofs.number_in.Reads as number-in-reads
 use Rattle.lvs_fields.proofs.number_of.Reads as number-of-reads
-use Rattle.lvs_rules.proofs.argument_rule.Reads as argument-rule-reads
-use Rattle.lvs_rules.proofs.arguments_rule.Reads as arguments-rule-reads
-use Rattle.lvs_rules.proofs.destination_rule.Reads as destination-rule-reads
+use Rattle.lvs_rules.proofs.options.argument_rule.Reads as argument-rule-reads
+use Rattle.lvs_rules.proofs.options.arguments_rule.Reads as arguments-rule-reads
+use Rattle.lvs_rules.proofs.numbers.destination_rule.Reads as destination-rule-reads
 use Rattle.lvs_rules.proofs.lower.Reads as lower-reads
-use Rattle.lvs_rules.proofs.signer_rule.Reads as signer-rule-reads
-use Rattle.lvs_rules.proofs.tag_rule.Reads as tag-rule-reads
-use Rattle.lvs_rules.proofs.terms_rule.Reads as terms-rule-reads
+use Rattle.lvs_rules.proofs.numbers.signer_rule.Reads as signer-rule-reads
+use Rattle.lvs_rules.proofs.numbers.tag_rule.Reads as tag-rule-reads
+use Rattle.lvs_rules.proofs.options.terms_rule.Reads as terms-rule-reads
 use Rattle.lvs_rules.proofs.type_of.Reads as type-of-reads
 use Rattle.tlv.proofs.Place.element.Reads as element-reads
 use Rattle.lvs_rules.proofs.+item_rule+sweep.{statement}

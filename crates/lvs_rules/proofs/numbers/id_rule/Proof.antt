@@ -1,7 +1,7 @@
--- `lvs_rules::id_rule` meets its contract. Assumes nothing.
+-- `lvs_rules::numbers::id_rule` meets its contract. Assumes nothing.
 use Rattle.lvs_rules.proofs.Least.{equal, unequal}
-use Rattle.lvs_rules.proofs.id_rule.Statement.{statement}
-use Rattle.lvs_rules.proofs.id_rule.Tie as tie
+use Rattle.lvs_rules.proofs.numbers.id_rule.Statement.{statement}
+use Rattle.lvs_rules.proofs.numbers.id_rule.Tie as tie
 
 returns : tie.Need-returns
 returns c = equal 6 _ _ (c .if1 .taken)

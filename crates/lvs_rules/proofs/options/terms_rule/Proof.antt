@@ -1,9 +1,9 @@
--- `lvs_rules::terms_rule` meets its contract. Assumes nothing.
+-- `lvs_rules::options::terms_rule` meets its contract. Assumes nothing.
 use mathlib.Core.Path.{sym, _∙_}
 use Rattle.lvs_rules.proofs.Least.{equal, unequal}
 use borrow.Author.Needs.{needs}
-use Rattle.lvs_rules.proofs.terms_rule.Statement.{statement}
-use Rattle.lvs_rules.proofs.terms_rule.Tie as tie
+use Rattle.lvs_rules.proofs.options.terms_rule.Statement.{statement}
+use Rattle.lvs_rules.proofs.options.terms_rule.Tie as tie
 
 returns : tie.Need-returns
 returns c = equal 10 _ _ (sym (c .before .term-count .ensures) ∙ c .if1 .taken)

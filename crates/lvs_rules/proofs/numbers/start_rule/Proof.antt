@@ -1,9 +1,9 @@
--- `lvs_rules::start_rule` meets its contract. Assumes nothing.
+-- `lvs_rules::numbers::start_rule` meets its contract. Assumes nothing.
 use native.Mathlib.Omega.{arith}
 use borrow.Author.Needs.{needs}
 use Rattle.lvs_rules.proofs.Least.{reached, not-reached}
-use Rattle.lvs_rules.proofs.start_rule.Statement.{statement}
-use Rattle.lvs_rules.proofs.start_rule.Tie as tie
+use Rattle.lvs_rules.proofs.numbers.start_rule.Statement.{statement}
+use Rattle.lvs_rules.proofs.numbers.start_rule.Tie as tie
 
 number-in-requires : tie.Need-number-in-requires
 number-in-requires c κs = search needs

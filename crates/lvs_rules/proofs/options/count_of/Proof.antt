@@ -1,4 +1,4 @@
--- `lvs_rules::count_of` meets its contract. Assumes nothing.
+-- `lvs_rules::options::count_of` meets its contract. Assumes nothing.
 use native.Mathlib.Omega.{arith}
 use Prim.Native.Nat.{_-_}
 use mathlib.Core.Path.{ap}
@@ -8,8 +8,8 @@ use Rattle.lvs_spec.specs.Model.{insideOf, insides}
 use Rattle.lvs_fields.proofs.Elements.{stop-end, stop-malformed, inside-taken, inside-passed}
 use Rattle.lvs_rules.proofs.Loops.{Counting, none-counted, one-more, no-more, counted}
 use borrow.Author.Needs.{needs}
-use Rattle.lvs_rules.proofs.count_of.Statement.{statement}
-use Rattle.lvs_rules.proofs.count_of.Tie as tie
+use Rattle.lvs_rules.proofs.options.count_of.Statement.{statement}
+use Rattle.lvs_rules.proofs.options.count_of.Tie as tie
 
 abbrev Inv-loop : tie.InvT-loop
 Inv-loop s wanted n₀ place₀ n place = Counting (insideOf wanted) s (place .at) n

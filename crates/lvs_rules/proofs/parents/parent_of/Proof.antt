@@ -1,4 +1,4 @@
--- `lvs_rules::parent_of` meets its contract. Assumes nothing.
+-- `lvs_rules::parents::parent_of` meets its contract. Assumes nothing.
 use native.Mathlib.Omega.{arith}
 use Prim.Native.Nat.{_-_}
 use mathlib.Core.Path.{refl}
@@ -9,8 +9,8 @@ use Rattle.lvs_spec.specs.Types as type
 use Rattle.lvs_fields.proofs.Elements.{Searching, search-on, stop-end, stop-malformed, inside-passed}
 use Rattle.lvs_rules.proofs.Loops.{parent-first, parent-none}
 use borrow.Author.Needs.{needs}
-use Rattle.lvs_rules.proofs.parent_of.Statement.{statement}
-use Rattle.lvs_rules.proofs.parent_of.Tie as tie
+use Rattle.lvs_rules.proofs.parents.parent_of.Statement.{statement}
+use Rattle.lvs_rules.proofs.parents.parent_of.Tie as tie
 
 abbrev Inv-loop : tie.InvT-loop
 Inv-loop node place₀ place = Searching (insideOf type.Parent) node (place .at)

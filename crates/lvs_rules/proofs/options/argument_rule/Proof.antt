@@ -1,4 +1,4 @@
--- `lvs_rules::argument_rule` meets its contract. Assumes nothing.
+-- `lvs_rules::options::argument_rule` meets its contract. Assumes nothing.
 use native.Mathlib.Omega.{arith}
 use Prim.Native.Nat.{_-_}
 use mathlib.Core.Path.{refl, ap, _∙_}
@@ -9,8 +9,8 @@ use Rattle.lvs_spec.specs.Model.{argumentFrom}
 use Rattle.lvs_fields.proofs.Elements.{Searching, stop-end, stop-malformed}
 use Rattle.lvs_rules.proofs.Loops.{value-first, tag-first, no-argument, argument-none}
 use borrow.Author.Needs.{needs}
-use Rattle.lvs_rules.proofs.argument_rule.Statement.{statement}
-use Rattle.lvs_rules.proofs.argument_rule.Tie as tie
+use Rattle.lvs_rules.proofs.options.argument_rule.Statement.{statement}
+use Rattle.lvs_rules.proofs.options.argument_rule.Tie as tie
 
 abbrev Inv-loop : tie.InvT-loop
 Inv-loop b place₀ place = Searching argumentFrom b (place .at)

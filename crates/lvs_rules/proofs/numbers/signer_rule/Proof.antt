@@ -1,10 +1,10 @@
--- `lvs_rules::signer_rule` meets its contract. Assumes nothing.
+-- `lvs_rules::numbers::signer_rule` meets its contract. Assumes nothing.
 use native.Mathlib.Omega.{arith}
 use Rattle.lvs_rules.proofs.Least.{reached, not-reached}
 use lib.ListN.{length}
 use Rattle.lvs_rules.specs.Lowest.{signerRule, unnamed}
-use Rattle.lvs_rules.proofs.signer_rule.Statement.{statement}
-use Rattle.lvs_rules.proofs.signer_rule.Tie as tie
+use Rattle.lvs_rules.proofs.numbers.signer_rule.Statement.{statement}
+use Rattle.lvs_rules.proofs.numbers.signer_rule.Tie as tie
 
 returns : tie.Need-returns
 unfolding signerRule unnamed

@@ -1,8 +1,8 @@
--- `lvs_rules::tag_rule` meets its contract. Assumes nothing.
+-- `lvs_rules::numbers::tag_rule` meets its contract. Assumes nothing.
 use native.Mathlib.Omega.{arith}
 use Rattle.lvs_rules.proofs.Least.{tag-zero, tag-high, tag-fine}
-use Rattle.lvs_rules.proofs.tag_rule.Statement.{statement}
-use Rattle.lvs_rules.proofs.tag_rule.Tie as tie
+use Rattle.lvs_rules.proofs.numbers.tag_rule.Statement.{statement}
+use Rattle.lvs_rules.proofs.numbers.tag_rule.Tie as tie
 
 returns : tie.Need-returns
 returns c = tag-zero _ (c .if1 .taken)

@@ -1,4 +1,4 @@
--- `lvs_rules::term_count` meets its contract. Assumes nothing.
+-- `lvs_rules::options::term_count` meets its contract. Assumes nothing.
 use native.Mathlib.Omega.{arith}
 use Prim.Native.Nat.{_-_}
 use lib.ListN.{length}
@@ -7,8 +7,8 @@ use Rattle.lvs_spec.specs.Model.{termFrom, optionOf}
 use Rattle.lvs_fields.proofs.Elements.{stop-end, stop-malformed}
 use Rattle.lvs_rules.proofs.Loops.{Counting, none-counted, one-more, no-more, counted, term, no-term}
 use borrow.Author.Needs.{needs}
-use Rattle.lvs_rules.proofs.term_count.Statement.{statement}
-use Rattle.lvs_rules.proofs.term_count.Tie as tie
+use Rattle.lvs_rules.proofs.options.term_count.Statement.{statement}
+use Rattle.lvs_rules.proofs.options.term_count.Tie as tie
 
 abbrev Inv-loop : tie.InvT-loop
 Inv-loop b n₀ place₀ n place = Counting termFrom b (place .at) n

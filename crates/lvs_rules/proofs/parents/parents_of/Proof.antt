@@ -1,4 +1,4 @@
--- `lvs_rules::parents_of` meets its contract. Assumes nothing.
+-- `lvs_rules::parents::parents_of` meets its contract. Assumes nothing.
 use native.Mathlib.Omega.{arith}
 use Prim.Native.Nat.{_-_}
 use mathlib.Core.Path.{refl}
@@ -7,8 +7,8 @@ use Rattle.tlv.proofs.Cuts.{seen}
 use Rattle.lvs_fields.proofs.Elements.{stop-end, stop-malformed}
 use Rattle.lvs_rules.proofs.Loops.{Filling, none-filled, room, parent-filled, parent-passed, all-filled}
 use borrow.Author.Needs.{needs}
-use Rattle.lvs_rules.proofs.parents_of.Statement.{statement}
-use Rattle.lvs_rules.proofs.parents_of.Tie as tie
+use Rattle.lvs_rules.proofs.parents.parents_of.Statement.{statement}
+use Rattle.lvs_rules.proofs.parents.parents_of.Tie as tie
 
 abbrev Inv-loop : tie.InvT-loop
 Inv-loop model parents₀ n₀ place₀ parents n place = Filling model (place .at) n parents

@@ -1,10 +1,10 @@
--- `lvs_rules::arguments_rule` meets its contract. Assumes nothing.
+-- `lvs_rules::options::arguments_rule` meets its contract. Assumes nothing.
 use mathlib.Core.Path.{refl}
 use Rattle.lvs_rules.specs.Lowest.{broken}
 use Rattle.lvs_rules.proofs.Items.{bad-call}
 use borrow.Author.Needs.{needs}
-use Rattle.lvs_rules.proofs.arguments_rule.Statement.{statement}
-use Rattle.lvs_rules.proofs.arguments_rule.Tie as tie
+use Rattle.lvs_rules.proofs.options.arguments_rule.Statement.{statement}
+use Rattle.lvs_rules.proofs.options.arguments_rule.Tie as tie
 
 returns : tie.Need-returns
 returns c = bad-call _ (c .before .before .before .before .before .before .inside-of .ensures .is) (c .before .before .before .before .before .count-of .ensures) (c .before .before .before .function-of .ensures) (c .before .enum-told .given .1) (c .number-rule .ensures)

@@ -1,9 +1,9 @@
--- `lvs_rules::index_of` meets its contract. Assumes nothing.
+-- `lvs_rules::parents::index_of` meets its contract. Assumes nothing.
 use borrow.Author.Needs.{needs}
 use borrow.Author.Tests.{lt-ltb, le-ltb}
 use Rattle.lvs_rules.specs.Lowest.{parentFrom}
-use Rattle.lvs_rules.proofs.index_of.Statement.{statement}
-use Rattle.lvs_rules.proofs.index_of.Tie as tie
+use Rattle.lvs_rules.proofs.parents.index_of.Statement.{statement}
+use Rattle.lvs_rules.proofs.parents.index_of.Tie as tie
 
 cast-result : tie.Need-cast-result
 cast-result c = search needs

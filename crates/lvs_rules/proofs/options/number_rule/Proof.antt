@@ -1,7 +1,7 @@
--- `lvs_rules::number_rule` meets its contract. Assumes nothing.
+-- `lvs_rules::options::number_rule` meets its contract. Assumes nothing.
 use Rattle.lvs_rules.proofs.Least.{equal, unequal}
-use Rattle.lvs_rules.proofs.number_rule.Statement.{statement}
-use Rattle.lvs_rules.proofs.number_rule.Tie as tie
+use Rattle.lvs_rules.proofs.options.number_rule.Statement.{statement}
+use Rattle.lvs_rules.proofs.options.number_rule.Tie as tie
 
 returns : tie.Need-returns
 returns c = equal 12 _ _ (c .if1 .taken)

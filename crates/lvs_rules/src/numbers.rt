@@ -1,0 +1,66 @@
+// The rules that ask something of one number: 5 to 9 and 11.
+ghost use mathlib.Core.Path.{_≡_};
+ghost use mathlib.Core.Bool.{not};
+ghost use Prim.Native.Nat.{_<_};
+ghost use lib.Dec.{leb, eqb};
+ghost use Rattle.lvs_spec.specs.Model.{theInteger};
+ghost use Rattle.lvs_spec.specs.Types as type;
+ghost use Rattle.lvs_rules.specs.Lowest.{broken, tagRule, destinationRule, signerRule};
+use lvs_spec::types::NODE_ID;
+
+// Above every rule: none is broken.
+pub const NO_RULE: u32 = 13;
+
+// Rule 5: a Tag is 1 to 128.
+pub fn tag_rule(tag: u64) -> u32
+    ensures { λ r. ⌜ r ≡ tagRule tag ⌝ }
+{
+    if tag == 0 {
+        return 5;
+    }
+    if lvs_spec::MAX_TAG < tag {
+        return 5;
+    }
+    NO_RULE
+}
+
+// Rule 6: a NodeId is its Node's index.
+pub fn id_rule(id: u64, i: u32) -> u32
+    ensures { λ r. ⌜ r ≡ broken 6 (not (eqb id i)) ⌝ }
+{
+    if id == i as u64 { NO_RULE } else { 6 }
+}
+
+// Rule 7: StartId names a Node; there are `n`.
+pub fn start_rule(model: &[u8], n: usize) -> u32
+    ensures { λ r. ⌜ r ≡ broken 7 (leb n (theInteger type.NodeId (now (model .entry)))) ⌝ }
+{
+    let start = lvs_fields::number_in(model, NODE_ID);
+    if n as u64 <= start { 7 } else { NO_RULE }
+}
+
+// Rules 8 and 11: a destination names a Node, whose Parent is the Node with index `i`.
+pub fn destination_rule(d: u64, i: u32, parents: &[u32]) -> u32
+    ensures { λ r. ⌜ r ≡ destinationRule (now (parents .entry)) i d ⌝ }
+{
+    if parents.len() as u64 <= d {
+        return 8;
+    }
+    let at = d as usize;
+    let parent = parents[at];
+    if parent != i {
+        return 11;
+    }
+    NO_RULE
+}
+
+// Rule 9: a SignConstraint names a Node.
+pub fn signer_rule(signer: u64, parents: &[u32]) -> u32
+    ensures { λ r. ⌜ r ≡ signerRule (now (parents .entry)) signer ⌝ }
+{
+    if parents.len() as u64 <= signer {
+        9
+    } else {
+        NO_RULE
+    }
+}
