@@ -14,7 +14,7 @@ use tlv::Place;
 use tlv::Read;
 
 // No Node's index: the Parent of a Node that has none.
-pub const NO_NODE: u32 = lvs_spec::MAX_NODES as u32;
+const NO_NODE: u32 = lvs_spec::MAX_NODES as u32;
 
 // Each Node's Parent, by the Node's index.
 pub fn parents_of(model: &[u8]) -> [u32; lvs_spec::MAX_NODES]
