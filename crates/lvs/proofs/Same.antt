@@ -1,7 +1,7 @@
--- Two answers that say the same are the same. Assumes nothing.
-use mathlib.Core.Path.{_≡_, refl}
-use Rattle.lvs_spec.specs.Answers.{Refusal}
-use Rattle.lvs_spec.proofs.Signing.{clash}
+-- Two answers that say the same are the same: each can be read back. Assumes nothing.
+use mathlib.Core.Path.{_≡_, refl, sym, ap, _∙_}
+use Rattle.lvs_spec.specs.Verdict.{Verdict as Judgement}
+use Rattle.lvs_spec.specs.Answers.{MatchAnswer as Matching, SignAnswer as Signing}
 use Rattle.lvs.specs.Readings.{verdictOf, matchAnswerOf, signAnswerOf}
 use Rattle.lvs.specs.declared.Verdict.{Verdict}
 use Rattle.lvs.specs.declared.Verdict.the-variants as verdicts
@@ -10,34 +10,45 @@ use Rattle.lvs.specs.declared.MatchAnswer.the-variants as matchings
 use Rattle.lvs.specs.declared.SignAnswer.{SignAnswer}
 use Rattle.lvs.specs.declared.SignAnswer.the-variants as signings
 
+same-back : {A B : Type 0} (f : A → B) (back : B → A) → ((a : A) → back (f a) ≡ a) → (r q : A) → f r ≡ f q → r ≡ q
+same-back f back is r q e = sym (is r) ∙ ap back e ∙ is q
+
+verdictFrom : Judgement → Verdict
+verdictFrom (Judgement.accepted n) = verdicts.Accepted n
+verdictFrom (Judgement.refused r i) = verdicts.Refused r i
+
+verdict-back : (r : Verdict) → verdictFrom (verdictOf r) ≡ r
+unfolding verdictFrom
+verdict-back (verdicts.Accepted n) = refl
+verdict-back (verdicts.Refused r i) = refl
+
 pub same-verdict : (r q : Verdict) → verdictOf r ≡ verdictOf q → r ≡ q
-same-verdict (verdicts.Accepted n) (verdicts.Accepted m) e = cc
-same-verdict (verdicts.Accepted n) (verdicts.Refused m i) e = clash (cc)
-same-verdict (verdicts.Refused n i) (verdicts.Accepted m) e = clash (cc)
-same-verdict (verdicts.Refused n i) (verdicts.Refused m j) e = cc
+same-verdict = same-back verdictOf verdictFrom verdict-back
+
+matchingFrom : Matching → MatchAnswer
+matchingFrom (Matching.matched v n) = matchings.Match v n
+matchingFrom Matching.noMatch = matchings.NoMatch
+matchingFrom (Matching.refused r) = matchings.Refused (r .number) (r .node)
+
+matching-back : (r : MatchAnswer) → matchingFrom (matchAnswerOf r) ≡ r
+unfolding matchingFrom
+matching-back (matchings.Match v n) = refl
+matching-back matchings.NoMatch = refl
+matching-back (matchings.Refused n i) = refl
 
 pub same-matching : (r q : MatchAnswer) → matchAnswerOf r ≡ matchAnswerOf q → r ≡ q
-same-matching (matchings.Match v n) (matchings.Match w m) e = cc
-same-matching (matchings.Match v n) matchings.NoMatch e = clash (cc)
-same-matching (matchings.Match v n) (matchings.Refused m i) e = clash (cc)
-same-matching matchings.NoMatch (matchings.Match w m) e = clash (cc)
-same-matching matchings.NoMatch matchings.NoMatch e = refl
-same-matching matchings.NoMatch (matchings.Refused m i) e = clash (cc)
-same-matching (matchings.Refused n i) (matchings.Match w m) e = clash (cc)
-same-matching (matchings.Refused n i) matchings.NoMatch e = clash (cc)
-same-matching (matchings.Refused n i) (matchings.Refused m j) e =
-    let q : _≡_ {A = Refusal} (record { number = n; node = i }) (record { number = m; node = j }) = cc in
-    λ k. matchings.Refused (q k .number) (q k .node)
+same-matching = same-back matchAnswerOf matchingFrom matching-back
+
+signingFrom : Signing → SignAnswer
+signingFrom (Signing.allowed p k) = signings.Allowed p k
+signingFrom Signing.notAllowed = signings.NotAllowed
+signingFrom (Signing.refused r) = signings.Refused (r .number) (r .node)
+
+signing-back : (r : SignAnswer) → signingFrom (signAnswerOf r) ≡ r
+unfolding signingFrom
+signing-back (signings.Allowed p k) = refl
+signing-back signings.NotAllowed = refl
+signing-back (signings.Refused n i) = refl
 
 pub same-signing : (r q : SignAnswer) → signAnswerOf r ≡ signAnswerOf q → r ≡ q
-same-signing (signings.Allowed p k) (signings.Allowed q l) e = cc
-same-signing (signings.Allowed p k) signings.NotAllowed e = clash (cc)
-same-signing (signings.Allowed p k) (signings.Refused m i) e = clash (cc)
-same-signing signings.NotAllowed (signings.Allowed q l) e = clash (cc)
-same-signing signings.NotAllowed signings.NotAllowed e = refl
-same-signing signings.NotAllowed (signings.Refused m i) e = clash (cc)
-same-signing (signings.Refused n i) (signings.Allowed q l) e = clash (cc)
-same-signing (signings.Refused n i) signings.NotAllowed e = clash (cc)
-same-signing (signings.Refused n i) (signings.Refused m j) e =
-    let q : _≡_ {A = Refusal} (record { number = n; node = i }) (record { number = m; node = j }) = cc in
-    λ k. signings.Refused (q k .number) (q k .node)
+same-signing = same-back signAnswerOf signingFrom signing-back

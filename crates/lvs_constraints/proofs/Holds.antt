@@ -2,7 +2,7 @@
 use Prim.Native.Nat.{ℕ, _-_}
 use mathlib.Core.Path.{_≡_, refl, sym, ap, subst, _∙_}
 use mathlib.Core.Bool.{Bool, true, false, _&&_, _||_, or-false}
-use mathlib.Core.List.{List, [], _∷_, _++_, map}
+use mathlib.Core.List.{List, [], _∷_, map}
 use mathlib.Core.Option.{Option, none, some}
 use borrow.Author.Tests.{ne-eqb}
 use lib.Dec.{eqb}
@@ -11,6 +11,7 @@ use Rattle.tlv.specs.Element.{Element, cuts}
 use Rattle.tlv.specs.declared.Place.{Place}
 use Rattle.tlv.proofs.Cuts.{Step, cuts-end, element-nil}
 use Rattle.lvs_spec.specs.Lists.{any, all, is, bind, first, firstOr}
+use Rattle.lvs_spec.proofs.Search.{any-append}
 use Rattle.lvs_spec.specs.Types as type
 use Rattle.lvs_spec.specs.Model.{Argument, eachCut, insides, theInside, numberOf, componentOf, argumentFrom, argumentOf, callOf, termFrom, optionOf, constraintOf, patternEdgeOf}
 use Rattle.lvs_spec.specs.Names.{same}
@@ -116,14 +117,6 @@ module _ (s : Bindings) (c : Element) (t : ℕ) (b : List ℕ) where
   term-none v g f = rw (ne-eqb type.Value t (λ e. v (sym e)), ne-eqb type.Tag t (λ e. g (sym e)), ne-eqb type.UserFnCall t (λ e. f (sym e)))
 
 -- ---- loops over what holds
-
-any-append : {A : Type 0} (p : A → Bool) (xs ys : List A) → any p (xs ++ ys) ≡ any p xs || any p ys
-any-append p [] ys = refl
-any-append p (x ∷ xs) ys = go (p x) (any-append p xs ys)
-  where
-    go : (b : Bool) → any p (xs ++ ys) ≡ any p xs || any p ys → (b || any p (xs ++ ys)) ≡ (b || any p xs) || any p ys
-    go true h = refl
-    go false h = h
 
 module _ (s : Bindings) (c : Element) where
   -- an option: some term holds

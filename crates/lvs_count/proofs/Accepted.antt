@@ -7,7 +7,8 @@ use Prim.Native.Nat.{ℕ, _+_}
 use native.Mathlib.Omega.{arith}
 use lib.Dec.{eqb}
 use lib.ListN.{length, length-map, length-append}
-use Rattle.tlv.specs.Element.{Element, Cuts, done, nexts, also, whole, split, cuts}
+use Rattle.tlv.specs.Element.{Element, done, nexts, cuts}
+use Rattle.tlv.proofs.RoundTrip.{split-nexts}
 use Rattle.tlv_reader.specs.declared.Count.the-variants.{Elements}
 use Rattle.tlv_reader.specs.Count.{one, ofType, countFrom, countOf}
 use Rattle.lvs_spec.specs.Lists.{when, each}
@@ -45,10 +46,6 @@ good b n h = go (tooLong b) (otherVersion b) (wellFormed b) refl refl refl
     go false false false p q r = absurd (not-refused 2 0 n (rw (p, q, r, verdict, reading) at h))
     go false false true p q r = record { formed = r; count = decide-count (rules (modelOf b)) _ n (rw (p, q, r, verdict, reading) at h) }
 
-whole-nexts : (es : List Element) → whole (nexts es done) ≡ some es
-whole-nexts [] = refl
-whole-nexts (e ∷ es) = ap (also e) (whole-nexts es)
-
 one-when : {A : Type 0} (x : Bool) (a : A) → length (when x a) ≡ one x
 unfolding one
 one-when true a = refl
@@ -62,8 +59,8 @@ insides-count t (e ∷ es) = length-append (insideOf t e) (each (insideOf t) es)
 
 module _ (b : List ℕ) (es : List Element) (is : cuts b ≡ nexts es done) where
   count-is : countOf type.Node b ≡ Elements (ofType type.Node es)
-  unfolding countOf split
-  count-is = ap (λ (c : Cuts). countFrom type.Node (whole c)) is ∙ ap (countFrom type.Node) (whole-nexts es)
+  unfolding countOf
+  count-is = ap (countFrom type.Node) (split-nexts b es is)
 
   insides-is : insides type.Node b ≡ each (insideOf type.Node) es
   unfolding insides

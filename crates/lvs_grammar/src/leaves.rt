@@ -12,7 +12,7 @@ ghost use Rattle.lvs_spec.specs.Leaves as leaves;
 ghost use Rattle.lvs_grammar.specs.Types.{kindOf, leafOf};
 
 // Whether the bytes are a leaf of this sort in a container of this kind.
-pub fn leaf_ok(s: &[u8], kind: Kind, leaf: Leaf) -> bool
+pub(crate) fn leaf_ok(s: &[u8], kind: Kind, leaf: Leaf) -> bool
     ensures { λ r. ⌜ r ≡ leaves.leafIn (kindOf kind) (leafOf leaf) (now (s .entry)) ⌝ }
 {
     match leaf {

@@ -133,7 +133,7 @@ fn in_tag_symbol(state: u8, typ: u32) -> Next
 }
 
 // Where a known type may stand in a container of this kind.
-pub fn next_state(kind: Kind, state: u8, typ: u32) -> Next
+pub(crate) fn next_state(kind: Kind, state: u8, typ: u32) -> Next
     ensures { λ r. ⌜ leftBehind (kindOf kind) r ≡ step (drop state (order (kindOf kind))) typ ⌝ }
 {
     match kind {
@@ -150,7 +150,7 @@ pub fn next_state(kind: Kind, state: u8, typ: u32) -> Next
 }
 
 // Whether a container of this kind may end in a state: nothing that must stand is left.
-pub fn may_end(kind: Kind, state: u8) -> bool
+pub(crate) fn may_end(kind: Kind, state: u8) -> bool
     ensures { λ r. ⌜ r ≡ final (drop state (order (kindOf kind))) ⌝ }
 {
     match kind {

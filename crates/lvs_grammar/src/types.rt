@@ -37,7 +37,7 @@ pub enum Meaning {
     Known(Known),
 }
 
-pub fn meaning_of(typ: u32) -> Meaning
+pub(crate) fn meaning_of(typ: u32) -> Meaning
     ensures { λ r. ⌜ meaningOf r ≡ meaning typ ⌝ }
 {
     match typ {
@@ -75,7 +75,7 @@ fn unknown_type(typ: u32) -> Meaning
     Meaning::Critical
 }
 
-pub fn is_optional(typ: u32) -> bool
+pub(crate) fn is_optional(typ: u32) -> bool
     ensures { λ r. ⌜ r ≡ isOptional (meaning typ) ⌝ }
 {
     match meaning_of(typ) {

@@ -1,7 +1,7 @@
 -- A component and the bytes that it is: bytes begin with the one exactly when they begin with the others. Assumes nothing.
 use Prim.Native.Nat.{ℕ, _+_, _-_, _≤_, _<_}
 use mathlib.Core.Path.{_≡_, refl, sym, ap, _∙_}
-use mathlib.Core.Bool.{Bool, true, false, _&&_}
+use mathlib.Core.Bool.{Bool, true, false}
 use mathlib.Core.List.{List, [], _++_, append-nil}
 use native.Mathlib.Omega.{arith}
 use borrow.Author.Tests.{eq-eqb, eqb-true, leb-true}
@@ -14,13 +14,10 @@ use Rattle.tlv.specs.declared.Place.{Place}
 use Rattle.tlv.proofs.Bytes.{bytes-drop, same-refl, same-true}
 use Rattle.tlv.proofs.Cuts.{Step, element-whole}
 use Rattle.tlv.proofs.RoundTrip.{element-back, element-bytes, element-fits, step-size}
+use Rattle.lvs_spec.proofs.Grammar.{both}
 use Rattle.lvs_spec.specs.Model.{componentFrom, componentOf}
 use Rattle.lvs_spec.specs.Names.{same}
 use Rattle.lvs_names.specs.Contents.{Alone}
-
-both-true : (a b : Bool) → (a && b) ≡ true → (a ≡ true) × (b ≡ true)
-both-true true b e = (refl, e)
-both-true false b e = let z : _≡_ {A = ℕ} 0 1 = cc in absurd (omega arith)
 
 same-itself : (e : Element) → same e e ≡ true
 unfolding same
@@ -29,7 +26,7 @@ same-itself e = rw (eq-eqb (e .type) (e .type) refl, same-refl (e .inside))
 same-equal : (a b : Element) → same a b ≡ true → a ≡ b
 unfolding same
 same-equal a b h =
-    let t = both-true (eqb (a .type) (b .type)) (sameBytes (a .inside) (b .inside)) h in
+    let t = both (eqb (a .type) (b .type)) (sameBytes (a .inside) (b .inside)) h in
     let p : a .type ≡ b .type = eqb-true (a .type) (b .type) (t .0) in
     let q : a .inside ≡ b .inside = same-true (a .inside) (b .inside) (t .1) in
     λ i. record { type = p i; inside = q i }
@@ -57,7 +54,7 @@ module _ (s c : List ℕ) (bytes : Bytes s) (bytes-c : Bytes c) (one : Alone c) 
   no-type h =
       let t = same-equal (record { type = 0; inside = [] }) e h in
       let z : e .type ≡ 0 = ap (λ (x : Element). x .type) (sym t) in
-      let ok = both-true (leb 1 (e .type)) (leb (e .type) 4294967295) (element-whole c (one .header) e [] (one .is) .ok) in
+      let ok = both (leb 1 (e .type)) (leb (e .type) 4294967295) (element-whole c (one .header) e [] (one .is) .ok) in
       omega (arith, leb-true 1 (e .type) (ok .0))
 
   begins : same (componentOf s) e ≡ true → (length c ≤ length s) × (take (length c) s ≡ c)

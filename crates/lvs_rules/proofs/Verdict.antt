@@ -8,6 +8,7 @@ use native.Mathlib.Omega.{arith}
 use borrow.Author.Tests.{lt-ltb, le-ltb}
 use lib.Dec.{ltb, eqb}
 use lib.ListN.{length}
+use Rattle.lvs_spec.proofs.Search.{any-append}
 use Rattle.lvs_spec.specs.Lists.{any, each, isSome}
 use Rattle.lvs_spec.specs.Limits.{maxNodes}
 use Rattle.lvs_spec.specs.Model.{Model, Node, Symbol}
@@ -50,14 +51,6 @@ unfolding nodeTests
 node-tests m i h n = node-rules n m h ∙ in-order _ _ _ _ _ _ _
 
 -- ---- a Tag anywhere: in a Node, or in a TagSymbol
-
-any-append : {A : Type 0} (t : A → Bool) (xs ys : List A) → any t (xs ++ ys) ≡ (any t xs || any t ys)
-any-append t [] ys = refl
-any-append t (x ∷ xs) ys = go (t x) (any-append t xs ys)
-  where
-    go : (b : Bool) → any t (xs ++ ys) ≡ (any t xs || any t ys) → (b || any t (xs ++ ys)) ≡ ((b || any t xs) || any t ys)
-    go true h = refl
-    go false h = h
 
 tags-in-nodes : (i : ℕ) (ns : List Node) → any badTag (each nodeTags ns) ≡ isSome (firstFault (λ i n. any badTag (nodeTags n)) i ns)
 unfolding firstFault

@@ -9,10 +9,10 @@ ghost use Rattle.lvs_rules.specs.Lowest.{broken, tagRule, destinationRul
 use lvs_spec::types::NODE_ID;
 
 // Above every rule: none is broken.
-pub const NO_RULE: u32 = 13;
+pub(crate) const NO_RULE: u32 = 13;
 
 // Rule 5: a Tag is 1 to 128.
-pub fn tag_rule(tag: u64) -> u32
+pub(crate) fn tag_rule(tag: u64) -> u32
     ensures { λ r. ⌜ r ≡ tagRule tag ⌝ }
 {
     if tag == 0 {
@@ -25,14 +25,14 @@ pub fn tag_rule(tag: u64) -> u32
 }
 
 // Rule 6: a NodeId is its Node's index.
-pub fn id_rule(id: u64, i: u32) -> u32
+pub(crate) fn id_rule(id: u64, i: u32) -> u32
     ensures { λ r. ⌜ r ≡ broken 6 (not (eqb id i)) ⌝ }
 {
     if id == i as u64 { NO_RULE } else { 6 }
 }
 
 // Rule 7: StartId names a Node; there are `n`.
-pub fn start_rule(model: &[u8], n: usize) -> u32
+pub(crate) fn start_rule(model: &[u8], n: usize) -> u32
     ensures { λ r. ⌜ r ≡ broken 7 (leb n (theInteger type.NodeId (now (model .entry)))) ⌝ }
 {
     let start = lvs_fields::number_in(model, NODE_ID);
@@ -40,7 +40,7 @@ pub fn start_rule(model: &[u8], n: usize) -> u32
 }
 
 // Rules 8 and 11: a destination names a Node, whose Parent is the Node with index `i`.
-pub fn destination_rule(d: u64, i: u32, parents: &[u32]) -> u32
+pub(crate) fn destination_rule(d: u64, i: u32, parents: &[u32]) -> u32
     ensures { λ r. ⌜ r ≡ destinationRule (now (parents .entry)) i d ⌝ }
 {
     if parents.len() as u64 <= d {
@@ -55,7 +55,7 @@ pub fn destination_rule(d: u64, i: u32, parents: &[u32]) -> u32
 }
 
 // Rule 9: a SignConstraint names a Node.
-pub fn signer_rule(signer: u64, parents: &[u32]) -> u32
+pub(crate) fn signer_rule(signer: u64, parents: &[u32]) -> u32
     ensures { λ r. ⌜ r ≡ signerRule (now (parents .entry)) signer ⌝ }
 {
     if parents.len() as u64 <= signer {

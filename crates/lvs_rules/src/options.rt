@@ -18,7 +18,7 @@ use tlv::Place;
 use tlv::Read;
 
 // Rule 5 of the Tag in an argument; an argument with neither Value nor Tag counts as Tag 0.
-pub fn argument_rule(b: &[u8]) -> u32
+pub(crate) fn argument_rule(b: &[u8]) -> u32
     ensures { λ r. ⌜ r ≡ argumentRule (argumentOf (now (b .entry))) ⌝ }
 {
     let mut place = Place { at: 0 };
@@ -49,7 +49,7 @@ pub fn argument_rule(b: &[u8]) -> u32
 }
 
 // Rule 12 of a call.
-pub fn arguments_rule(call: &[u8]) -> u32
+pub(crate) fn arguments_rule(call: &[u8]) -> u32
     ensures { λ r. ⌜ r ≡ broken 12 (badCall (callOf (now (call .entry)))) ⌝ }
 {
     let part = lvs_fields::inside_of(call, FN_ID);
@@ -72,7 +72,7 @@ fn number_rule(n: usize, arity: usize) -> u32
 }
 
 // Rule 10 of a ConstraintOption.
-pub fn terms_rule(b: &[u8]) -> u32
+pub(crate) fn terms_rule(b: &[u8]) -> u32
     ensures { λ r. ⌜ r ≡ broken 10 (not (eqb (length (optionOf (now (b .entry)))) 1)) ⌝ }
 {
     let n = term_count(b);
@@ -112,7 +112,7 @@ fn term_count(b: &[u8]) -> usize
 }
 
 // How many elements of a type `s` holds.
-pub fn count_of(s: &[u8], wanted: u32) -> usize
+pub(crate) fn count_of(s: &[u8], wanted: u32) -> usize
     ensures { λ r. ⌜ r ≡ length (insides wanted (now (s .entry))) ⌝ }
 {
     let mut n = 0;

@@ -17,7 +17,7 @@ use tlv::Read;
 const NO_NODE: u32 = lvs_spec::MAX_NODES as u32;
 
 // Each Node's Parent, by the Node's index.
-pub fn parents_of(model: &[u8]) -> [u32; lvs_spec::MAX_NODES]
+pub(crate) fn parents_of(model: &[u8]) -> [u32; lvs_spec::MAX_NODES]
     requires { ⌜ length (insides type.Node (now model)) ≤ maxNodes ⌝ }
     ensures { λ r.
         ⌜

@@ -2,10 +2,10 @@
 use Prim.Native.Nat.{ℕ}
 use mathlib.Core.Path.{_≡_, refl, sym, ap, _∙_, subst}
 use mathlib.Core.Logic.{_⊎_, inl, inr}
-use mathlib.Core.Bool.{Bool, true, false, false≢true}
+use mathlib.Core.Bool.{Bool, true, false, _||_, false≢true}
 use mathlib.Core.List.{List, [], _∷_, _++_, append-assoc, append-nil, List·Memᴰ, List·Memᴰ·head, List·Memᴰ·tail, List·Memᴰ·not-nil, List·Memᴰ·eq-of-singleton, List·Memᴰ·append-cases, Memᴰ·append-left, Memᴰ·append-right}
 use mathlib.Core.Option.{Option, none, some, Option·none-ne-some, Option·some-injective}
-use Rattle.lvs_spec.specs.Lists.{each, when, first}
+use Rattle.lvs_spec.specs.Lists.{each, when, any, first}
 use Rattle.lvs_spec.specs.Model.{Model}
 use Rattle.lvs_spec.specs.Names.{Component}
 use Rattle.lvs_spec.specs.Walk.{Bindings, Match, noBindings, crossValue, crossPattern, nodeAt, crossings, matches, matchesFrom, packetMatches, lists, signers, pairs}
@@ -52,6 +52,15 @@ module _ {A B C : Type 0} where
   pub firstOn-each : (h : B → Option C) (g : A → List B) (xs : List A) → firstOn h (each g xs) ≡ firstOn (λ x. firstOn h (g x)) xs
   firstOn-each h g [] = refl
   firstOn-each h g (x ∷ xs) = firstOn-append h (g x) (each g xs) ∙ ap (orElse (firstOn h (g x))) (firstOn-each h g xs)
+
+-- a test passes on two lists where it passes on one of them
+pub any-append : {A : Type 0} (p : A → Bool) (xs ys : List A) → any p (xs ++ ys) ≡ any p xs || any p ys
+any-append p [] ys = refl
+any-append p (x ∷ xs) ys = go (p x) (any-append p xs ys)
+  where
+    go : (b : Bool) → any p (xs ++ ys) ≡ any p xs || any p ys → (b || any p (xs ++ ys)) ≡ (b || any p xs) || any p ys
+    go true h = refl
+    go false h = h
 
 pub each-alone : {A : Type 0} (xs : List A) → each (λ x. x ∷ []) xs ≡ xs
 each-alone [] = refl

@@ -11,6 +11,7 @@ use lib.Seq.{drop-cons, take-all}
 use Rattle.tlv.specs.Bytes.{bigEndian}
 use Rattle.tlv.specs.Number.{integer}
 use Rattle.tlv.proofs.Cuts.{Step, short-step}
+use Rattle.lvs_spec.proofs.Grammar.{both}
 use Rattle.lvs_spec.specs.Types as type
 use Rattle.lvs_spec.specs.Model.{insides, numberOf, theInside, theInteger, constraintOf, patternEdgeOf}
 use Rattle.lvs_fields.proofs.Elements.{insides-found, insides-other}
@@ -53,10 +54,6 @@ pub record Plain (s : List ℕ) : Type 0 where
   pub node-size : getD s 1 0 ≡ 1
   pub tag : getD s 3 0 ≡ type.Tag
   pub tag-size : getD s 4 0 ≡ 1
-
-both : (a b : Bool) → (a && b) ≡ true → (a ≡ true) × (b ≡ true)
-both true b e = (refl, e)
-both false b e = let z : _≡_ {A = ℕ} 0 1 = cc in absurd (omega arith)
 
 pub plain-is : (s : List ℕ) → plainFields s ≡ true → Plain s
 unfolding plainFields

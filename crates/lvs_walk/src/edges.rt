@@ -1,7 +1,7 @@
 // A Node's edges, and crossing one with a component.
 //
 // `packet` and `key` are the two names, `slots` the bindings as they stand, and `c` the bytes of the component that is to pass, which
-// stands at `at` of the names' text.
+// stands at `at` of the names' text. `requires` asks for that, and for two words a Tag.
 ghost use mathlib.Core.Path.{_≡_};
 ghost use mathlib.Core.Bool.{true, false};
 ghost use Prim.Native.Nat.{ℕ, _+_, _*_, _<_};
@@ -56,7 +56,7 @@ fn edge_type(pattern: bool) -> u32
 }
 
 // The next edge of a Node from a place on: a PatternEdge or a ValueEdge.
-pub fn edge_from(s: &[u8], pattern: bool, at: usize) -> EdgeRead
+pub(crate) fn edge_from(s: &[u8], pattern: bool, at: usize) -> EdgeRead
     ensures { λ r. ⌜ EdgeFrom (now (s .entry)) (edgeType pattern) at r ⌝ }
 {
     let wanted = edge_type(pattern);
@@ -133,7 +133,7 @@ fn saved(slots: &[u32], i: usize) -> Undo
 }
 
 // Puts the words of a Tag back.
-pub fn put_back(slots: &mut [u32], undo: Undo)
+pub(crate) fn put_back(slots: &mut [u32], undo: Undo)
     requires { ⌜ (undo .slot < 255) × (length (now slots) ≡ bindingWords) ⌝ }
     ensures { λ _. ⌜ now (slots .exit) ≡ undone undo (now (slots .entry)) ⌝ }
 {
@@ -197,7 +197,7 @@ fn cross_pattern<'a>(
     Crossing::Open(dest, undo)
 }
 
-pub fn cross<'a>(
+pub(crate) fn cross<'a>(
     s: &[u8],
     pattern: bool,
     packet: &'a [u8],

@@ -1,6 +1,7 @@
 // Where the Nodes of a model are, and what they list.
 //
-// `places` has two words for each Node: where its edges and signers start in the model, and where it ends.
+// `places` has two words for each Node: where its edges and signers start in the model, and where it ends. `requires` asks for words that
+// `node_places` has filled; it asks for room for them, all 0, and a model within the limits.
 ghost use mathlib.Core.Path.{_≡_};
 ghost use mathlib.Core.Bool.{true, false};
 ghost use Prim.Native.Nat.{_+_, _*_, _<_};
@@ -19,10 +20,10 @@ use lvs_spec::types::VALUE_EDGE;
 use tlv::Place;
 use tlv::Read;
 
-pub const PLACE_WORDS: usize = lvs_spec::MAX_NODES * 2;
+pub(crate) const PLACE_WORDS: usize = lvs_spec::MAX_NODES * 2;
 
 // The part of the model that has a Node's edges and signers.
-pub fn node_part(places: &[u32], node: u64) -> Part
+pub(crate) fn node_part(places: &[u32], node: u64) -> Part
     requires { ⌜ length (now places) ≡ placeWords ⌝ }
     ensures { λ r. ⌜ r ≡ partAt (now (places .entry)) node ⌝ }
 {
@@ -79,7 +80,7 @@ fn body_of(s: &[u8]) -> usize
 }
 
 // Records the two words of each Node.
-pub fn node_places(model: &[u8], places: &mut [u32])
+pub(crate) fn node_places(model: &[u8], places: &mut [u32])
     requires { ⌜ Small (now model) ⌝ }
     requires { ⌜ now places ≡ noPlaces ⌝ }
     ensures { λ _. ⌜ NodesAt (now (model .entry)) (now (places .exit)) ⌝ }
@@ -143,7 +144,7 @@ fn lists_signer(s: &[u8], signer: u64) -> bool
 }
 
 // Whether the packet's node lists the key's.
-pub fn lists_node(model: &[u8], places: &[u32], node: u64, signer: u64) -> bool
+pub(crate) fn lists_node(model: &[u8], places: &[u32], node: u64, signer: u64) -> bool
     requires { ⌜ NodesAt (now model) (now places) ⌝ }
     ensures { λ r. ⌜ r ≡ lists (modelOf (now (model .entry))) node signer ⌝ }
 {

@@ -1,4 +1,6 @@
 // The words of a match: what the bindings come to in the lent buffer.
+//
+// Below the public calls, which refuse a buffer that is too short: `requires` asks for the room.
 ghost use mathlib.Core.Path.{_≡_};
 ghost use mathlib.Core.Bool.{cond};
 ghost use lib.Dec.{eqb};
