@@ -9,10 +9,10 @@ use borrow.Author.Tests.{ne-eqb, lt-ltb, le-ltb, le-leb, lt-leb, leb-true, leb-f
 use lib.Dec.{leb}
 use lib.ListN.{length, getD, set, take, drop, length-drop, length-set, drop-of-length-le, List·getD-eq-default}
 use lib.Seq.{take-all, set-out, set-set, set-getD}
-use Rattle.lvs_spec.specs.Lists.{isSome}
+use Rattle.tlv.specs.Lists.{isSome}
 use Rattle.lvs_spec.specs.Limits.{maxTag}
 use Rattle.lvs_spec.specs.Walk.{Binding, Bindings, bound, bindTag}
-use Rattle.lvs_bindings.specs.Slots.{slotWords, textFrom, bindingAt, binding, bindingsOf, hasWords, slotAt, boundWords, boundTag, clearedWords, without}
+use Rattle.lvs_bindings.specs.Slots.{slotWords, Room, SlotOf, textFrom, bindingAt, binding, bindingsOf, hasWords, slotAt, boundWords, boundTag, clearedWords, without}
 use Rattle.lvs_bindings.specs.declared.Slot.{Slot}
 
 -- ---- the text
@@ -98,14 +98,14 @@ no-words-past : (i : ℕ) → hasWords (suc i) ≡ false → maxTag ≤ i
 unfolding hasWords
 no-words-past i h = let l = leb-false (suc i) maxTag (rw (le-leb 1 (suc i) (omega arith)) at h) in omega arith
 
-pub slot-none : (words : List ℕ) (tag : ℕ) → hasWords tag ≡ false → record { start = 0; size = 0 } ≡ slotAt words tag
+pub slot-none : (words : List ℕ) (tag : ℕ) → hasWords tag ≡ false → SlotOf words tag (record { start = 0; size = 0 })
 unfolding slotAt
-slot-none words tag h = rw h
+slot-none words tag h = record { is = rw h }
 
 pub slot-some : (words : List ℕ) (tag : ℕ) → hasWords tag ≡ true
-    → record { start = getD words ((tag - 1) * 2) 0; size = getD words ((tag - 1) * 2 + 1) 0 } ≡ slotAt words tag
+    → SlotOf words tag (record { start = getD words ((tag - 1) * 2) 0; size = getD words ((tag - 1) * 2 + 1) 0 })
 unfolding slotAt
-slot-some words tag h = rw h
+slot-some words tag h = record { is = rw h }
 
 pub bind-none : (words : List ℕ) (tag p n : ℕ) → hasWords tag ≡ false → (0 ≡ boundTag tag) × (words ≡ boundWords tag p n words)
 unfolding boundTag boundWords
@@ -159,9 +159,9 @@ unfolding binding
 binding-some packet key p n e = rw (ne-eqb n 0 e)
 
 -- slots with all their words
-module _ {words : List ℕ} (room : length words ≡ slotWords) (packet key : List ℕ) where
+module _ {words : List ℕ} (room : Room words) (packet key : List ℕ) where
   all-bindings : length (bindingsOf packet key words) ≡ maxTag
-  all-bindings = bindings-length packet key maxTag words room
+  all-bindings = bindings-length packet key maxTag words (room .is)
 
   -- a Tag that has no words is bound to nothing
   past-none : (i : ℕ) → maxTag ≤ i → getD (bindingsOf packet key words) i none ≡ none
@@ -178,9 +178,9 @@ module _ {words : List ℕ} (room : length words ≡ slotWords) (packet key : Li
           rw (h, slotAt) (rw e (sym (getD-bindings packet key i words)))
       go false h = rw (h, slotAt) (sym (past-none i (no-words-past i h)))
 
-  module _ {tag : ℕ} {s : Slot} (read : s ≡ slotAt words tag) where
+  module _ {tag : ℕ} {s : Slot} (read : SlotOf words tag s) where
     slot-stands : binding packet key (s .start) (s .size) ≡ bound (bindingsOf packet key words) tag
-    slot-stands = ap (λ (s : Slot). binding packet key (s .start) (s .size)) read ∙ slot-bound tag
+    slot-stands = ap (λ (s : Slot). binding packet key (s .start) (s .size)) (read .is) ∙ slot-bound tag
 
     pub unbound : s .size ≡ 0 → bound (bindingsOf packet key words) tag ≡ none
     unbound e = sym slot-stands ∙ binding-none packet key (s .start) (s .size) e

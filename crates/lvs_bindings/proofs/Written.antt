@@ -11,7 +11,7 @@ use lib.Seq.{paste, paste-zero, paste-suc, drop-cons, take-all}
 use Rattle.lvs_spec.specs.Limits.{maxTag, bindingWords}
 use Rattle.lvs_spec.specs.Walk.{Bindings}
 use Rattle.lvs_spec.specs.Answers.{words, boundCount}
-use Rattle.lvs_bindings.specs.Slots.{slotWords, placeIn, bindingAt, binding, bindingsOf, startWord}
+use Rattle.lvs_bindings.specs.Slots.{slotWords, Room, placeIn, bindingAt, binding, bindingsOf, startWord}
 use Rattle.lvs_bindings.proofs.Slots.{twice, twice-one}
 
 -- ---- one binding
@@ -33,7 +33,7 @@ module _ (packet key : List ℕ) (p n : ℕ) where
   place-there e h = rw (ne-eqb n 0 e, le-ltb p (length packet) h)
 
   words-cons : (bs : Bindings) → words (binding packet key p n ∷ bs) ≡ startWord (binding packet key p n) ∷ n ∷ words bs
-  unfolding binding words
+  unfolding binding bindingAt words
   words-cons bs = go (eqb n 0) refl
     where
       go : (t : Bool) → eqb n 0 ≡ t → words (binding packet key p n ∷ bs) ≡ startWord (binding packet key p n) ∷ n ∷ words bs
@@ -95,7 +95,7 @@ pub written-first : (name slots before : List ℕ) → Written name slots before
 written-first name slots before =
     record { room = omega arith; long = refl; copied = paste-zero before 0 (words (bindingsOf name [] slots)); counted = omega arith; few = omega arith }
 
-module _ {name slots before buffer : List ℕ} {bound i : ℕ} (W : Written name slots before buffer bound i) (all-slots : length slots ≡ slotWords)
+module _ {name slots before buffer : List ℕ} {bound i : ℕ} (W : Written name slots before buffer bound i) (all-slots : Room slots)
     (enough : bindingWords ≤ length before) where
   pub written-next : i < maxTag → {w b : ℕ} → w ≡ startWord (binding name [] (getD slots (i * 2) 0) (getD slots (i * 2 + 1) 0))
       → b ≡ cond (eqb (getD slots (i * 2 + 1) 0) 0) 0 1 → b ≤ 1
@@ -103,7 +103,7 @@ module _ {name slots before buffer : List ℕ} {bound i : ℕ} (W : Written name
   unfolding bindingsOf
   written-next h {w} {b} w-is b-is b-le =
       let X : List ℕ = words (bindingsOf name [] slots) in
-      let l : length X ≡ slotWords = words-length name [] maxTag slots all-slots in
+      let l : length X ≡ slotWords = words-length name [] maxTag slots (all-slots .is) in
       let d : drop (i * 2) slots ≡ getD slots (i * 2) 0 ∷ getD slots (i * 2 + 1) 0 ∷ drop ((i + 1) * 2) slots = two in
       let c : (bound + b) + boundCount (bindingsOf name [] (drop ((i + 1) * 2) slots)) ≡ boundCount (bindingsOf name [] slots) =
       omega (arith, W .counted, ap (λ (x : List ℕ). boundCount (bindingsOf name [] x)) d, count-cons name [] (getD slots (i * 2) 0) (getD slots (i * 2 + 1) 0) (bindingsOf name [] (drop ((i + 1) * 2) slots))) in
@@ -124,7 +124,7 @@ module _ {name slots before buffer : List ℕ} {bound i : ℕ} (W : Written name
       copy : set (set buffer (i * 2) w) (i * 2 + 1) (getD slots (i * 2 + 1) 0) ≡ paste before 0 (words (bindingsOf name [] slots)) ((i + 1) * 2)
       copy =
           let X : List ℕ = words (bindingsOf name [] slots) in
-          let l : length X ≡ slotWords = words-length name [] maxTag slots all-slots in
+          let l : length X ≡ slotWords = words-length name [] maxTag slots (all-slots .is) in
           let z : 0 + i * 2 ≡ i * 2 = omega arith in
           let y : 0 + suc (i * 2) ≡ i * 2 + 1 = omega arith in
           let e : suc (i * 2) ≡ i * 2 + 1 = omega arith in
@@ -140,7 +140,7 @@ module _ {name slots before buffer : List ℕ} {bound i : ℕ} (W : Written name
   pub written-words : maxTag ≤ i → buffer ≡ words (bindingsOf name [] slots) ++ drop bindingWords before
   written-words h =
       let e : i ≡ maxTag = omega (arith, W .room) in
-      W .copied ∙ rw e (ap (λ (x : List ℕ). x ++ drop bindingWords before) (take-all bindingWords (words (bindingsOf name [] slots)) (omega (arith, words-length name [] maxTag slots all-slots))))
+      W .copied ∙ rw e (ap (λ (x : List ℕ). x ++ drop bindingWords before) (take-all bindingWords (words (bindingsOf name [] slots)) (omega (arith, words-length name [] maxTag slots (all-slots .is)))))
 
   pub written-count : maxTag ≤ i → bound ≡ boundCount (bindingsOf name [] slots)
   unfolding bindingsOf boundCount

@@ -1,6 +1,7 @@
 -- Bindings as the code holds them: two words for each Tag, a start and a size; a Tag whose size is 0 is unbound. A start counts through the
 -- packet's name and then through the key's, so that it says which name the component is in.
 use Prim.Native.Nat.{ℕ, zero, suc, _+_, _-_, _*_}
+use mathlib.Core.Path.{_≡_}
 use mathlib.Core.Bool.{Bool, cond, _&&_}
 use mathlib.Core.List.{List, [], _∷_}
 use mathlib.Core.Option.{Option, none, some}
@@ -14,6 +15,9 @@ use Rattle.lvs_bindings.specs.declared.Slot.{Slot}
 -- the number of words, derived from that of Tags
 abbrev pub slotWords : ℕ
 slotWords = maxTag * 2
+
+pub record Room (words : List ℕ) : Type 0 where
+  pub is : length words ≡ slotWords
 
 -- the two names' bytes from a place on
 unfoldable pub textFrom : List ℕ → List ℕ → ℕ → List ℕ
@@ -46,6 +50,9 @@ unfoldable pub slotAt : List ℕ → ℕ → Slot
 slotAt words tag =
     cond (hasWords tag) (record { start = getD words ((tag - 1) * 2) 0; size = getD words ((tag - 1) * 2 + 1) 0 })
     (record { start = 0; size = 0 })
+
+pub record SlotOf (words : List ℕ) (tag : ℕ) (s : Slot) : Type 0 where
+  pub is : s ≡ slotAt words tag
 
 -- a Tag bound to the n bytes at p; one that has no words is not
 unfoldable pub boundWords : ℕ → ℕ → ℕ → List ℕ → List ℕ

@@ -9,7 +9,7 @@ ghost use lib.Dec.{eqb};
 ghost use lib.ListN.{length, drop};
 ghost use Rattle.lvs_spec.specs.Limits.{maxTag, bindingWords};
 ghost use Rattle.lvs_spec.specs.Answers.{words, boundCount};
-ghost use Rattle.lvs_bindings.specs.Slots.{slotWords, textFrom, binding, bindingsOf, slotAt, boundWords, boundTag, clearedWords, startWord};
+ghost use Rattle.lvs_bindings.specs.Slots.{Room, SlotOf, textFrom, binding, bindingsOf, boundWords, boundTag, clearedWords, startWord};
 
 // A start and a size for each Tag.
 pub const SLOT_WORDS: usize = lvs_spec::MAX_TAG as usize * 2;
@@ -37,7 +37,7 @@ pub fn text_from<'a>(packet: &'a [u8], key: &'a [u8], at: usize) -> &'a [u8]
 
 // The words of a Tag; 0 and 0 for one that is out of range.
 pub fn slot_of(slots: &[u32; SLOT_WORDS], tag: u64) -> Slot
-    ensures { λ r. ⌜ r ≡ slotAt (now (slots .entry)) tag ⌝ }
+    ensures { λ r. ⌜ SlotOf (now (slots .entry)) tag r ⌝ }
 {
     if tag < 1 {
         return Slot { start: 0, size: 0 };
@@ -83,7 +83,7 @@ pub fn unbind_tag(slots: &mut [u32; SLOT_WORDS], tag: u64)
 
 // Writes the words of a match over the first ones of a buffer, and says how many Tags are bound.
 pub fn write_words(name: &[u8], slots: &[u32; SLOT_WORDS], buffer: &mut [u32]) -> u32
-    requires { ⌜ (length (now slots) ≡ slotWords) × (bindingWords ≤ length (now buffer)) ⌝ }
+    requires { ⌜ Room (now slots) × (bindingWords ≤ length (now buffer)) ⌝ }
     ensures { λ r. ⌜ (r ≡ boundCount (bindingsOf (now (name .entry)) [] (now (slots .entry))))
         × (now (buffer .exit) ≡ words (bindingsOf (now (name .entry)) [] (now (slots .entry))) ++ drop bindingWords (now (buffer .entry))) ⌝ }
 {

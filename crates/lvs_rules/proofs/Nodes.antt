@@ -7,7 +7,7 @@ use native.Mathlib.Nat.{min-comm, min-eq-left}
 use native.Mathlib.Omega.{arith}
 use lib.Dec.{eqb}
 use lib.ListN.{length}
-use Rattle.lvs_spec.specs.Lists.{any, each}
+use Rattle.tlv.specs.Lists.{any, each}
 use Rattle.lvs_spec.specs.Limits.{maxNodes}
 use Rattle.lvs_spec.specs.Model.{Model, Node, ValueEdge, PatternEdge, Constraint, ConstraintOption, Term, Call, Argument}
 use Rattle.lvs_spec.specs.Verdict.{destinations, options, terms, callsIn, calls, argumentTags, termTags, nodeTags, namesNone, badTag, notParent, badCall}

@@ -8,8 +8,8 @@ use native.Mathlib.Omega.{arith}
 use borrow.Author.Tests.{lt-ltb, le-ltb}
 use lib.Dec.{ltb, eqb}
 use lib.ListN.{length}
-use Rattle.lvs_spec.proofs.Search.{any-append}
-use Rattle.lvs_spec.specs.Lists.{any, each, isSome}
+use Rattle.tlv.proofs.Gathered.{any-append}
+use Rattle.tlv.specs.Lists.{any, each, isSome}
 use Rattle.lvs_spec.specs.Limits.{maxNodes}
 use Rattle.lvs_spec.specs.Model.{Model, Node, Symbol}
 use Rattle.lvs_spec.specs.Verdict.{refused, decide, rules, judge, somewhere, firstFault, tags, nodeTags, badTag, namesNone, notParent, badCall, destinations, options, calls}

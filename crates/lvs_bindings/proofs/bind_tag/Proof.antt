@@ -1,52 +1,42 @@
+-- `lvs_bindings::bind_tag` meets its contract. Assumes nothing.
+use Rattle.lvs_bindings.proofs.Slots.{no-words-low, no-words-high, has-words, bind-none, bind-some}
+use native.Mathlib.Omega.{arith}
 use borrow.Author.Needs.{needs}
 use Rattle.lvs_bindings.proofs.bind_tag.Statement.{statement}
 use Rattle.lvs_bindings.proofs.bind_tag.Tie as tie
-use Rattle.lvs_bindings.proofs.bind_tag.Reads as reads
-use Rattle.lvs_bindings.proofs.bind_tag.Lts as lts
 
--- src/lib.rt:61:9
 returns : tie.Need-returns
-returns c = ?
+returns c = bind-none _ _ _ _ (no-words-low _ (c .if1 .taken))
 
--- src/lib.rt:64:9
 returns-2 : tie.Need-returns-2
-returns-2 c = ?
+returns-2 c = bind-none _ _ _ _ (no-words-high _ (c .if2 .taken))
 
--- src/lib.rt:66:13
 mul-i : tie.Need-mul-i
 mul-i c = search needs
 
--- src/lib.rt:67:16
 cast-slots : tie.Need-cast-slots
 cast-slots c = search needs
 
--- src/lib.rt:67:5
 mul-slots : tie.Need-mul-slots
 mul-slots c = search needs
 
--- src/lib.rt:67:5
 element-write-slots : tie.Need-element-write-slots
 element-write-slots c = search needs
 
--- src/lib.rt:68:20
 cast-slots-2 : tie.Need-cast-slots-2
 cast-slots-2 c = search needs
 
--- src/lib.rt:68:11
 add-slots : tie.Need-add-slots
 add-slots c = search needs
 
--- src/lib.rt:68:5
 mul-slots-2 : tie.Need-mul-slots-2
 mul-slots-2 c = search needs
 
--- src/lib.rt:68:5
 element-write-slots-2 : tie.Need-element-write-slots-2
 element-write-slots-2 c = search needs
 
--- src/lib.rt:56:1
 returns-3 : tie.Need-returns-3
-returns-3 c = ?
+returns-3 c = bind-some _ _ _ _ (has-words _ (omega arith) (omega arith))
 
 pub bind-tag-spec : {M : Type 1} → statement M
 bind-tag-spec =

@@ -1,32 +1,27 @@
+-- `lvs_bindings::unbind_tag` meets its contract. Assumes nothing.
+use Rattle.lvs_bindings.proofs.Slots.{clear-none, clear-some}
+use native.Mathlib.Omega.{arith}
 use borrow.Author.Needs.{needs}
 use Rattle.lvs_bindings.proofs.unbind_tag.Statement.{statement}
 use Rattle.lvs_bindings.proofs.unbind_tag.Tie as tie
-use Rattle.lvs_bindings.proofs.unbind_tag.Reads as reads
-use Rattle.lvs_bindings.proofs.unbind_tag.Lts as lts
 
--- src/lib.rt:78:9
 returns : tie.Need-returns
-returns c = ?
+returns c = clear-none _ _ (c .if1 .taken)
 
--- src/lib.rt:80:13
 mul-i : tie.Need-mul-i
 mul-i c = search needs
 
--- src/lib.rt:81:11
 add-slots : tie.Need-add-slots
 add-slots c = search needs
 
--- src/lib.rt:81:5
 mul-slots : tie.Need-mul-slots
 mul-slots c = search needs
 
--- src/lib.rt:81:5
 element-write-slots : tie.Need-element-write-slots
 element-write-slots c = search needs
 
--- src/lib.rt:73:1
 returns-2 : tie.Need-returns-2
-returns-2 c = ?
+returns-2 c = clear-some _ _ (omega arith)
 
 pub unbind-tag-spec : {M : Type 1} → statement M
 unbind-tag-spec =
