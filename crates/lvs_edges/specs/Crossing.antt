@@ -1,0 +1,76 @@
+-- Crossing an edge: where it leads, the bindings before and after it, and how to take back what it bound.
+use Prim.Native.Nat.{ℕ, _-_, _≤_, _<_}
+use mathlib.Core.Path.{_≡_}
+use mathlib.Core.Bool.{false}
+use mathlib.Core.List.{List}
+use mathlib.Core.Option.{Option, none, some}
+use lib.ListN.{length, drop, getD}
+use Rattle.tlv.specs.Lists.{bind}
+use Rattle.tlv.specs.Fields.{insides, theInteger}
+use Rattle.lvs_spec.specs.Limits.{maxTag}
+use Rattle.lvs_spec.specs.Types as type
+use Rattle.lvs_spec.specs.Model.{Edge, componentOf, destination}
+use Rattle.lvs_spec.specs.Walk.{Binding, Bindings, Match, behind}
+use Rattle.lvs_names.specs.Contents.{Alone}
+use Rattle.lvs_bindings.specs.Slots.{Room, textFrom, bindingAt, bindingsOf, without}
+use Rattle.lvs_edges.specs.Edges.{edgeOf}
+use Rattle.lvs_edges.specs.declared.PatternFields.{PatternFields}
+use Rattle.lvs_edges.specs.declared.Crossing.{Crossing}
+use Rattle.lvs_edges.specs.declared.Crossing.the-variants.{Shut, Open}
+
+-- c is the bytes of the component at a place of the two names' text, and place and size fit a word
+pub record Stands (packet key : List ℕ) (at : ℕ) (c : List ℕ) : Type 0 where
+  pub alone : Alone c
+  pub content : componentOf (textFrom packet key at) ≡ componentOf c
+  pub low : at < 65536
+  pub short : length c < 65536
+  pub some : 0 < length c
+
+-- a NodeId and a Tag of one byte each, and nothing before or between them
+pub record PlainPattern (s : List ℕ) : Type 0 where
+  pub long : 6 ≤ length s
+  pub node : getD s 0 0 ≡ type.NodeId
+  pub node-size : getD s 1 0 ≡ 1
+  pub tag : getD s 3 0 ≡ type.Tag
+  pub tag-size : getD s 4 0 ≡ 1
+
+-- a NodeId of one byte and a Value that ends the edge, its length of one byte too
+pub record PlainValue (s : List ℕ) : Type 0 where
+  pub long : 5 ≤ length s
+  pub short : length s ≤ 257
+  pub node : getD s 0 0 ≡ type.NodeId
+  pub node-size : getD s 1 0 ≡ 1
+  pub value : getD s 3 0 ≡ type.Value
+  pub value-size : getD s 4 0 ≡ length s - 5
+
+-- the fields of a PatternEdge, and a place in it from which on all its Constraints are
+pub record FieldsOf (s : List ℕ) (f : PatternFields) : Type 0 where
+  pub destination : f .dest ≡ theInteger type.NodeId s
+  pub tag-is : f .tag ≡ theInteger type.Tag s
+  pub within : f .rest ≤ length s
+  pub constraints : insides type.Constraint (drop (f .rest) s) ≡ insides type.Constraint s
+
+-- where an edge leads with the component of b, and the bindings there; nothing where it is not crossed
+unfoldable pub leadsTo : Bindings → Binding → Edge → Option Match
+leadsTo s b e = bind (behind s b e) λ t. some (record { node = destination e; bindings = t })
+
+-- the match that a crossing stands for, with these bindings after it
+abbrev pub reached : Crossing → Bindings → Option Match
+reached Shut s = none
+reached (Open d t) s = some (record { node = d; bindings = s })
+
+-- the Tag that it bound; 0 for none
+abbrev pub newTag : Crossing → ℕ
+newTag Shut = 0
+newTag (Open d t) = t
+
+pub record Crossed (packet key : List ℕ) (e : Edge) (b : Binding) (before : List ℕ) (r : Crossing) (after : List ℕ) : Type 0 where
+  pub leads : leadsTo (bindingsOf packet key before) b e ≡ reached r (bindingsOf packet key after)
+  pub back : without (newTag r) (bindingsOf packet key after) ≡ bindingsOf packet key before
+  pub low : newTag r ≤ maxTag
+  pub room : Room after
+
+-- a ValueEdge binds nothing, so that it is crossed alike under all bindings
+pub record CrossedValue (s c : List ℕ) (r : Crossing) : Type 0 where
+  pub leads : (β : Bindings) (b : Binding) → b .component .content ≡ componentOf c → leadsTo β b (edgeOf false s) ≡ reached r β
+  pub binds-none : newTag r ≡ 0

@@ -1,0 +1,204 @@
+// A Node's edges, and crossing one with a component. Below the search, so that whoever follows a given path needs no search.
+//
+// `packet` and `key` are the two names, `slots` the bindings as they stand, and `c` the bytes of the component that is to pass, which
+// stands at `at` of the names' text. `requires` asks for that.
+pub mod nodes;
+
+ghost use mathlib.Core.Path.{_≡_};
+ghost use mathlib.Core.Bool.{true};
+ghost use lib.ListN.{length};
+ghost use Rattle.lvs_names.specs.Contents.{Alone};
+ghost use Rattle.lvs_bindings.specs.Slots.{Room, bindingAt};
+ghost use Rattle.lvs_edges.specs.Edges.{edgeOf, EdgeFrom};
+ghost use Rattle.lvs_edges.specs.Crossing.{Stands, PlainPattern, PlainValue, FieldsOf, Crossed, CrossedValue};
+use lvs_bindings::SLOT_WORDS;
+use lvs_spec::types::NODE_ID;
+use lvs_spec::types::PATTERN_EDGE;
+use lvs_spec::types::TAG;
+use lvs_spec::types::VALUE;
+use lvs_spec::types::VALUE_EDGE;
+use tlv::Place;
+use tlv::Read;
+
+// Whether it is a PatternEdge; start and end of the edge's inside in its Node; the place after it.
+pub enum EdgeRead {
+    Edge(bool, usize, usize, usize),
+    End,
+}
+
+// What a PatternEdge leads to and binds, and where in it the Constraints are from.
+pub struct PatternFields {
+    pub dest: u64,
+    pub tag: u64,
+    pub rest: usize,
+}
+
+// An edge is shut, or leads to a Node; then the Tag that it has bound, 0 for none.
+pub enum Crossing {
+    Shut,
+    Open(u64, u64),
+}
+
+// The next edge of a Node from a place on.
+pub fn edge_from(s: &[u8], at: usize) -> EdgeRead
+    ensures { λ r. ⌜ EdgeFrom (now (s .entry)) at r ⌝ }
+{
+    let mut place = Place { at };
+    loop {
+        match place.element(s) {
+            Read::Found {
+                typ,
+                start,
+                end,
+                next,
+            } => {
+                if typ == VALUE_EDGE {
+                    return EdgeRead::Edge(false, start, end, next.at);
+                }
+                if typ == PATTERN_EDGE {
+                    return EdgeRead::Edge(true, start, end, next.at);
+                }
+                place = next;
+            }
+            Read::End => {
+                return EdgeRead::End;
+            }
+            Read::Malformed => {
+                return EdgeRead::End;
+            }
+        }
+    }
+}
+
+// Crosses an edge.
+pub fn cross<'a>(
+    s: &[u8],
+    pattern: bool,
+    packet: &'a [u8],
+    key: &'a [u8],
+    at: usize,
+    c: &[u8],
+    slots: &mut [u32; SLOT_WORDS],
+) -> Crossing
+    requires { ⌜ Room (now slots) ⌝ }
+    requires { ⌜ Stands (now packet) (now key) at (now c) ⌝ }
+    ensures { λ r. ⌜ Crossed (now (packet .entry)) (now (key .entry)) (edgeOf pattern (now (s .entry)))
+        (bindingAt (now (packet .entry)) (now (key .entry)) at (length (now (c .entry)))) (now (slots .entry)) r (now (slots .exit)) ⌝ }
+{
+    if pattern {
+        return cross_pattern(s, packet, key, at, c, slots);
+    }
+    cross_value(s, c)
+}
+
+// Crosses a ValueEdge. A plain one is read by its bytes; any other is searched for its fields.
+fn cross_value(s: &[u8], c: &[u8]) -> Crossing
+    requires { ⌜ Alone (now c) ⌝ }
+    ensures { λ r. ⌜ CrossedValue (now (s .entry)) (now (c .entry)) r ⌝ }
+{
+    if plain_value(s) {
+        if lvs_names::begins_with(&s[5..], c) {
+            return Crossing::Open(s[2] as u64, 0);
+        }
+        return Crossing::Shut;
+    }
+    let part = tlv::inside_of(s, VALUE);
+    let a = part.start;
+    let b = part.end;
+    if lvs_names::begins_with(&s[a..b], c) {
+        return Crossing::Open(tlv::number_in(s, NODE_ID), 0);
+    }
+    Crossing::Shut
+}
+
+// Whether a ValueEdge is plain, as nearly all are; it is free to say no.
+fn plain_value(s: &[u8]) -> bool
+    ensures { λ r. ⌜ (r ≡ true → PlainValue (now (s .entry))) ⌝ }
+{
+    if s.len() < 5 {
+        return false;
+    }
+    if 257 < s.len() {
+        return false;
+    }
+    if s[0] as u32 != NODE_ID {
+        return false;
+    }
+    if s[1] != 1 {
+        return false;
+    }
+    if s[3] as u32 != VALUE {
+        return false;
+    }
+    s[4] as usize == s.len() - 5
+}
+
+// Crosses a PatternEdge: a bound Tag is compared, and an unbound one is bound. Constraints are tested before that.
+fn cross_pattern<'a>(
+    s: &[u8],
+    packet: &'a [u8],
+    key: &'a [u8],
+    at: usize,
+    c: &[u8],
+    slots: &mut [u32; SLOT_WORDS],
+) -> Crossing
+    requires { ⌜ Room (now slots) ⌝ }
+    requires { ⌜ Stands (now packet) (now key) at (now c) ⌝ }
+    ensures { λ r. ⌜ Crossed (now (packet .entry)) (now (key .entry)) (edgeOf true (now (s .entry)))
+        (bindingAt (now (packet .entry)) (now (key .entry)) at (length (now (c .entry)))) (now (slots .entry)) r (now (slots .exit)) ⌝ }
+{
+    let fields = pattern_fields(s);
+    let tag = fields.tag;
+    let dest = fields.dest;
+    let rest = fields.rest;
+    let slot = lvs_bindings::slot_of(slots, tag);
+    if slot.size == 0 {
+        if !lvs_constraints::constraints_hold(&s[rest..], packet, key, slots, c) {
+            return Crossing::Shut;
+        }
+        return Crossing::Open(dest, lvs_bindings::bind_tag(slots, tag, at, c.len()));
+    }
+    if !lvs_names::begins_with(lvs_bindings::text_from(packet, key, slot.start as usize), c) {
+        return Crossing::Shut;
+    }
+    if !lvs_constraints::constraints_hold(&s[rest..], packet, key, slots, c) {
+        return Crossing::Shut;
+    }
+    Crossing::Open(dest, 0)
+}
+
+fn pattern_fields(s: &[u8]) -> PatternFields
+    ensures { λ r. ⌜ FieldsOf (now (s .entry)) r ⌝ }
+{
+    if plain_pattern(s) {
+        return PatternFields {
+            dest: s[2] as u64,
+            tag: s[5] as u64,
+            rest: 6,
+        };
+    }
+    PatternFields {
+        dest: tlv::number_in(s, NODE_ID),
+        tag: tlv::number_in(s, TAG),
+        rest: 0,
+    }
+}
+
+// Whether a PatternEdge begins with a NodeId and a Tag of one byte each, as nearly all do; it is free to say no.
+fn plain_pattern(s: &[u8]) -> bool
+    ensures { λ r. ⌜ (r ≡ true → PlainPattern (now (s .entry))) ⌝ }
+{
+    if s.len() < 6 {
+        return false;
+    }
+    if s[0] as u32 != NODE_ID {
+        return false;
+    }
+    if s[1] != 1 {
+        return false;
+    }
+    if s[3] as u32 != TAG {
+        return false;
+    }
+    s[4] == 1
+}
