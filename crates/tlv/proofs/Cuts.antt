@@ -215,6 +215,10 @@ read-seen s at = go (element (drop at s)) refl
 pub seen : (s : List ℕ) (at : ℕ) {r a : Read} → r ≡ readAt s at → r ≡ a → Seen s at a
 seen s at {r} {a} e f = subst (Seen s at) (sym e ∙ f) (read-seen s at)
 
+-- what `seen` tells of an answer, for a signature
+abbrev pub SeenOf : (s : List ℕ) (at : ℕ) {r a : Read} → r ≡ readAt s at → r ≡ a → Type 0
+SeenOf s at {r} {a} e f = Seen s at a
+
 -- the same of what stands first
 abbrev pub FirstSeen : List ℕ → ℕ → Read → Type 0
 FirstSeen s at (Found kind start stop n) = Step s at kind start stop n
