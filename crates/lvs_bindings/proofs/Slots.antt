@@ -3,16 +3,15 @@ use Prim.Native.Nat.{ℕ, zero, suc, _+_, _-_, _*_, _≤_, _<_}
 use mathlib.Core.Path.{_≡_, refl, sym, ap, _∙_}
 use mathlib.Core.Bool.{Bool, true, false, cond, _&&_}
 use mathlib.Core.List.{List, [], _∷_}
-use mathlib.Core.Option.{Option, none, some}
+use mathlib.Core.Option.{none, some}
 use native.Mathlib.Omega.{arith}
 use borrow.Author.Tests.{ne-eqb, lt-ltb, le-ltb, le-leb, lt-leb, leb-true, leb-false}
 use lib.Dec.{leb}
 use lib.ListN.{length, getD, set, take, drop, length-drop, length-set, drop-of-length-le, List·getD-eq-default}
 use lib.Seq.{take-all, set-out, set-set, set-getD}
-use Rattle.tlv.specs.Lists.{isSome}
 use Rattle.lvs_spec.specs.Limits.{maxTag}
-use Rattle.lvs_spec.specs.Walk.{Binding, Bindings, bound, bindTag}
-use Rattle.lvs_bindings.specs.Slots.{slotWords, Room, SlotOf, textFrom, bindingAt, binding, bindingsOf, hasWords, slotAt, boundWords, boundTag, clearedWords, without}
+use Rattle.lvs_spec.specs.Walk.{Bindings, bound, bindTag}
+use Rattle.lvs_bindings.specs.Slots.{Room, SlotOf, textFrom, bindingAt, binding, bindingsOf, hasWords, slotAt, boundWords, boundTag, clearedWords, without}
 use Rattle.lvs_bindings.specs.declared.Slot.{Slot}
 
 -- ---- the text

@@ -1,23 +1,24 @@
 -- Arguments, calls, options and Constraints: what each reader answers, one law for each return and turn. Assumes nothing.
 use Prim.Native.Nat.{ℕ, _-_}
 use mathlib.Core.Path.{_≡_, refl, sym, ap, subst, _∙_}
-use mathlib.Core.Bool.{Bool, false, or-false}
+use mathlib.Core.Bool.{Bool, true, false, or-false}
 use mathlib.Core.List.{List, [], _∷_, map}
 use mathlib.Core.Option.{Option, none, some}
+use native.Mathlib.Omega.{arith}
 use borrow.Author.Tests.{ne-eqb}
 use lib.Dec.{eqb}
 use lib.ListN.{length, take, drop}
 use Rattle.tlv.specs.Element.{Element}
 use Rattle.tlv.specs.declared.Place.{Place}
 use Rattle.tlv.proofs.Cuts.{Step, cuts-end, element-nil}
-use Rattle.tlv.specs.Lists.{any, is, bind, first, firstOr}
+use Rattle.tlv.specs.Lists.{any, all, is, bind, first, firstOr}
 use Rattle.tlv.proofs.Gathered.{Stop, over, each-one, each-none, each-stop, Gathered, listed, rest-is, passed}
 use Rattle.lvs_spec.specs.Types as type
-use Rattle.lvs_spec.specs.Model.{Argument, componentOf, argumentFrom, argumentOf, callOf, termFrom}
+use Rattle.lvs_spec.specs.Model.{Argument, componentOf, argumentFrom, argumentOf, callOf, termFrom, patternEdgeOf}
 use Rattle.tlv.specs.Fields.{eachCut, insides, theInside, numberOf}
 use Rattle.lvs_spec.specs.Names.{same}
 use Rattle.lvs_spec.specs.Verdict.{Function as Known, eq, eqType, isValidId, isValidYear, functionOf}
-use Rattle.lvs_spec.specs.Walk.{Bindings, bound, boundTo, argumentIn, holds, callHolds, termHolds}
+use Rattle.lvs_spec.specs.Walk.{Bindings, bound, boundTo, argumentIn, holds, callHolds, termHolds, constraintHolds}
 use Rattle.lvs_functions.specs.Functions.{functionRead}
 use Rattle.lvs_functions.specs.declared.Function.{Function}
 use Rattle.lvs_functions.specs.declared.Function.the-variants.{Eq, EqType, IsValidId, IsValidYear, Unknown}
@@ -120,3 +121,10 @@ module _ (s : Bindings) (c : Element) (t : ℕ) (b : List ℕ) where
   pub term-none : (t ≡ type.Value → ⊥) → (t ≡ type.Tag → ⊥) → (t ≡ type.UserFnCall → ⊥) → holdsIn ≡ false
   unfolding termFrom
   term-none v g f = rw (ne-eqb type.Value t (λ e. v (sym e)), ne-eqb type.Tag t (λ e. g (sym e)), ne-eqb type.UserFnCall t (λ e. f (sym e)))
+
+-- ---- an edge without Constraints
+
+pub all-empty : (s : Bindings) (c : Element) (b : List ℕ) → length b ≡ 0 → all (constraintHolds s c) (patternEdgeOf b .constraints) ≡ true
+unfolding patternEdgeOf insides eachCut
+all-empty s c [] e = rw (cuts-end [] element-nil)
+all-empty s c (x ∷ xs) e = absurd (omega arith)

@@ -1,2 +1,2 @@
-pub mod Bindings
+pub mod Bound
 pub mod Holds

@@ -1,21 +1,19 @@
-// Bindings, and the Constraints of a PatternEdge (document 01, "Names and the walk"), for any bytes.
+// The Constraints of a PatternEdge (document 01, "Names and the walk"), for any bytes.
 //
-// A layer below the public calls: `requires` asks for two words a Tag, which the walk's own array has, and
+// A layer below the public calls: `requires` asks for the words of all Tags, which the walk's own array has, and
 // for a component that is cut out.
 //
 // `packet` and `key` are the two names, `slots` the bindings as they stand, and `c` the component that is to pass.
 ghost use mathlib.Core.Path.{_≡_};
-ghost use Prim.Native.Nat.{_+_};
 ghost use lib.Dec.{eqb};
-ghost use lib.ListN.{length};
 ghost use Rattle.tlv.specs.Lists.{any, all, is};
-ghost use Rattle.lvs_spec.specs.Limits.{bindingWords};
 ghost use Rattle.lvs_names.specs.Contents.{Alone};
-ghost use Rattle.lvs_spec.specs.Model.{PatternEdge, componentOf, argumentOf, callOf, termFrom, optionOf, constraintOf, patternEdgeOf};
+ghost use Rattle.lvs_spec.specs.Model.{componentOf, argumentOf, callOf, termFrom, optionOf, constraintOf, patternEdgeOf};
 ghost use Rattle.lvs_spec.specs.Names.{same};
-ghost use Rattle.lvs_spec.specs.Walk.{boundTo, argumentIn, callHolds, termHolds, optionHolds, constraintHolds, crosses};
-ghost use Rattle.lvs_constraints.specs.Bindings.{textFrom, bindingsOf, SlotOf, EdgeWith};
+ghost use Rattle.lvs_spec.specs.Walk.{boundTo, argumentIn, callHolds, termHolds, optionHolds, constraintHolds};
+ghost use Rattle.lvs_bindings.specs.Slots.{Room, bindingsOf};
 ghost use Rattle.lvs_constraints.specs.Arguments.{ArgumentAt};
+use lvs_bindings::SLOT_WORDS;
 use lvs_functions::Function;
 use lvs_spec::types::CONSTRAINT;
 use lvs_spec::types::CONSTRAINT_OPTION;
@@ -27,75 +25,36 @@ use lvs_spec::types::VALUE;
 use tlv::Place;
 use tlv::Read;
 
-// The two words of a Tag.
-pub struct Slot {
-    pub start: u32,
-    pub size: u32,
-}
-
 // What an argument holds: a Value, as a part, or a Tag.
 pub enum ArgumentRead {
     Value(usize, usize),
     Tag(u64),
 }
 
-// The two names' bytes from a place on.
-pub fn text_from<'a>(packet: &'a [u8], key: &'a [u8], at: usize) -> &'a [u8]
-    ensures { λ r. ⌜ now r ≡ textFrom (now (packet .entry)) (now (key .entry)) at ⌝ }
-{
-    if at < packet.len() {
-        return &packet[at..];
-    }
-    let k = at - packet.len();
-    if k <= key.len() {
-        return &key[k..];
-    }
-    let n = key.len();
-    &key[n..]
-}
-
-// The words of a Tag; 0 and 0 for one that is out of range.
-pub fn slot_of(slots: &[u32], tag: u64) -> Slot
-    requires { ⌜ length (now slots) ≡ bindingWords ⌝ }
-    ensures { λ r. ⌜ SlotOf (now (slots .entry)) tag r ⌝ }
-{
-    if tag == 0 {
-        return Slot { start: 0, size: 0 };
-    }
-    if lvs_spec::MAX_TAG < tag {
-        return Slot { start: 0, size: 0 };
-    }
-    let i = (tag - 1) as usize * 2;
-    Slot {
-        start: slots[i],
-        size: slots[i + 1],
-    }
-}
-
 // Whether a Tag is bound to an equal component.
-fn bound_same<'a>(packet: &'a [u8], key: &'a [u8], slots: &[u32], tag: u64, c: &[u8]) -> bool
-    requires { ⌜ length (now slots) ≡ bindingWords ⌝ }
+fn bound_same<'a>(packet: &'a [u8], key: &'a [u8], slots: &[u32; SLOT_WORDS], tag: u64, c: &[u8]) -> bool
+    requires { ⌜ Room (now slots) ⌝ }
     requires { ⌜ Alone (now c) ⌝ }
     ensures { λ r. ⌜ r ≡ boundTo (bindingsOf (now (packet .entry)) (now (key .entry)) (now (slots .entry))) tag (componentOf (now (c .entry))) ⌝ }
 {
-    let slot = slot_of(slots, tag);
+    let slot = lvs_bindings::slot_of(slots, tag);
     if slot.size == 0 {
         return false;
     }
-    lvs_names::begins_with(text_from(packet, key, slot.start as usize), c)
+    lvs_names::begins_with(lvs_bindings::text_from(packet, key, slot.start as usize), c)
 }
 
 // Whether a Tag is bound to a component of the same type.
-fn bound_same_type<'a>(packet: &'a [u8], key: &'a [u8], slots: &[u32], tag: u64, c: &[u8]) -> bool
-    requires { ⌜ length (now slots) ≡ bindingWords ⌝ }
+fn bound_same_type<'a>(packet: &'a [u8], key: &'a [u8], slots: &[u32; SLOT_WORDS], tag: u64, c: &[u8]) -> bool
+    requires { ⌜ Room (now slots) ⌝ }
     ensures { λ r. ⌜ r ≡ is (λ a. eqb (a .type) (componentOf (now (c .entry)) .type))
         (argumentIn (bindingsOf (now (packet .entry)) (now (key .entry)) (now (slots .entry))) (Rattle.lvs_spec.specs.Model.Argument.tag tag)) ⌝ }
 {
-    let slot = slot_of(slots, tag);
+    let slot = lvs_bindings::slot_of(slots, tag);
     if slot.size == 0 {
         return false;
     }
-    lvs_names::same_type(text_from(packet, key, slot.start as usize), c)
+    lvs_names::same_type(lvs_bindings::text_from(packet, key, slot.start as usize), c)
 }
 
 // What a UserFnArg holds: its first Value or Tag.
@@ -130,8 +89,8 @@ fn argument_of(s: &[u8]) -> ArgumentRead
 }
 
 // Whether a call's first argument equals the component.
-fn argument_same<'a>(s: &[u8], packet: &'a [u8], key: &'a [u8], slots: &[u32], c: &[u8]) -> bool
-    requires { ⌜ length (now slots) ≡ bindingWords ⌝ }
+fn argument_same<'a>(s: &[u8], packet: &'a [u8], key: &'a [u8], slots: &[u32; SLOT_WORDS], c: &[u8]) -> bool
+    requires { ⌜ Room (now slots) ⌝ }
     requires { ⌜ Alone (now c) ⌝ }
     ensures { λ r. ⌜ r ≡ is (λ a. same a (componentOf (now (c .entry))))
         (argumentIn (bindingsOf (now (packet .entry)) (now (key .entry)) (now (slots .entry))) (argumentOf (now (s .entry)))) ⌝ }
@@ -147,10 +106,10 @@ fn argument_same_type<'a>(
     s: &[u8],
     packet: &'a [u8],
     key: &'a [u8],
-    slots: &[u32],
+    slots: &[u32; SLOT_WORDS],
     c: &[u8],
 ) -> bool
-    requires { ⌜ length (now slots) ≡ bindingWords ⌝ }
+    requires { ⌜ Room (now slots) ⌝ }
     ensures { λ r. ⌜ r ≡ is (λ a. eqb (a .type) (componentOf (now (c .entry)) .type))
         (argumentIn (bindingsOf (now (packet .entry)) (now (key .entry)) (now (slots .entry))) (argumentOf (now (s .entry)))) ⌝ }
 {
@@ -161,8 +120,8 @@ fn argument_same_type<'a>(
 }
 
 // Whether a UserFnCall holds.
-fn call_holds<'a>(s: &[u8], packet: &'a [u8], key: &'a [u8], slots: &[u32], c: &[u8]) -> bool
-    requires { ⌜ length (now slots) ≡ bindingWords ⌝ }
+fn call_holds<'a>(s: &[u8], packet: &'a [u8], key: &'a [u8], slots: &[u32; SLOT_WORDS], c: &[u8]) -> bool
+    requires { ⌜ Room (now slots) ⌝ }
     requires { ⌜ Alone (now c) ⌝ }
     ensures { λ r. ⌜ r ≡ callHolds (bindingsOf (now (packet .entry)) (now (key .entry)) (now (slots .entry))) (componentOf (now (c .entry))) (callOf (now (s .entry))) ⌝ }
 {
@@ -187,10 +146,10 @@ fn term_holds<'a>(
     typ: u32,
     packet: &'a [u8],
     key: &'a [u8],
-    slots: &[u32],
+    slots: &[u32; SLOT_WORDS],
     c: &[u8],
 ) -> bool
-    requires { ⌜ length (now slots) ≡ bindingWords ⌝ }
+    requires { ⌜ Room (now slots) ⌝ }
     requires { ⌜ Alone (now c) ⌝ }
     ensures { λ r. ⌜ r ≡ any (termHolds (bindingsOf (now (packet .entry)) (now (key .entry)) (now (slots .entry))) (componentOf (now (c .entry))))
         (termFrom (record { type = typ; inside = now (s .entry) })) ⌝ }
@@ -208,8 +167,8 @@ fn term_holds<'a>(
 }
 
 // Whether a ConstraintOption holds.
-fn option_holds<'a>(s: &[u8], packet: &'a [u8], key: &'a [u8], slots: &[u32], c: &[u8]) -> bool
-    requires { ⌜ length (now slots) ≡ bindingWords ⌝ }
+fn option_holds<'a>(s: &[u8], packet: &'a [u8], key: &'a [u8], slots: &[u32; SLOT_WORDS], c: &[u8]) -> bool
+    requires { ⌜ Room (now slots) ⌝ }
     requires { ⌜ Alone (now c) ⌝ }
     ensures { λ r. ⌜ r ≡ optionHolds (bindingsOf (now (packet .entry)) (now (key .entry)) (now (slots .entry))) (componentOf (now (c .entry))) (optionOf (now (s .entry))) ⌝ }
 {
@@ -238,8 +197,8 @@ fn option_holds<'a>(s: &[u8], packet: &'a [u8], key: &'a [u8], slots: &[u32], c:
 }
 
 // Whether a Constraint holds: one of its options does.
-fn constraint_holds<'a>(s: &[u8], packet: &'a [u8], key: &'a [u8], slots: &[u32], c: &[u8]) -> bool
-    requires { ⌜ length (now slots) ≡ bindingWords ⌝ }
+fn constraint_holds<'a>(s: &[u8], packet: &'a [u8], key: &'a [u8], slots: &[u32; SLOT_WORDS], c: &[u8]) -> bool
+    requires { ⌜ Room (now slots) ⌝ }
     requires { ⌜ Alone (now c) ⌝ }
     ensures { λ r. ⌜ r ≡ constraintHolds (bindingsOf (now (packet .entry)) (now (key .entry)) (now (slots .entry))) (componentOf (now (c .entry))) (constraintOf (now (s .entry))) ⌝ }
 {
@@ -269,9 +228,9 @@ fn constraint_holds<'a>(s: &[u8], packet: &'a [u8], key: &'a [u8], slots: &[u32]
     }
 }
 
-// Whether every Constraint of a PatternEdge holds.
-fn constraints_hold<'a>(s: &[u8], packet: &'a [u8], key: &'a [u8], slots: &[u32], c: &[u8]) -> bool
-    requires { ⌜ length (now slots) ≡ bindingWords ⌝ }
+// Whether every Constraint in `s` holds.
+fn each_holds<'a>(s: &[u8], packet: &'a [u8], key: &'a [u8], slots: &[u32; SLOT_WORDS], c: &[u8]) -> bool
+    requires { ⌜ Room (now slots) ⌝ }
     requires { ⌜ Alone (now c) ⌝ }
     ensures { λ r. ⌜ r ≡ all (constraintHolds (bindingsOf (now (packet .entry)) (now (key .entry)) (now (slots .entry))) (componentOf (now (c .entry))))
         (patternEdgeOf (now (s .entry)) .constraints) ⌝ }
@@ -302,26 +261,22 @@ fn constraints_hold<'a>(s: &[u8], packet: &'a [u8], key: &'a [u8], slots: &[u32]
     }
 }
 
-// Whether a PatternEdge lets the component `c` pass: its Tag, which `slot` is of, is unbound or bound to an equal one, and every Constraint
-// holds; `s` is the edge, or the part of it where its Constraints are.
-pub fn passes<'a>(
+// Whether every Constraint of a PatternEdge holds; `s` is the edge, or a part of it with all its Constraints. Most edges have none, and are
+// answered without a call.
+pub fn constraints_hold<'a>(
     s: &[u8],
-    slot: Slot,
     packet: &'a [u8],
     key: &'a [u8],
-    slots: &[u32],
+    slots: &[u32; SLOT_WORDS],
     c: &[u8],
 ) -> bool
-    requires { ⌜ length (now slots) ≡ bindingWords ⌝ }
+    requires { ⌜ Room (now slots) ⌝ }
     requires { ⌜ Alone (now c) ⌝ }
-    ensures { λ r. ⌜ ((e : PatternEdge) → EdgeWith e (now (s .entry)) (now (slots .entry)) slot
-        → r ≡ crosses (bindingsOf (now (packet .entry)) (now (key .entry)) (now (slots .entry))) (componentOf (now (c .entry))) e) ⌝ }
+    ensures { λ r. ⌜ r ≡ all (constraintHolds (bindingsOf (now (packet .entry)) (now (key .entry)) (now (slots .entry))) (componentOf (now (c .entry))))
+        (patternEdgeOf (now (s .entry)) .constraints) ⌝ }
 {
-    if slot.size == 0 {
-        return constraints_hold(s, packet, key, slots, c);
+    if s.len() == 0 {
+        return true;
     }
-    if !lvs_names::begins_with(text_from(packet, key, slot.start as usize), c) {
-        return false;
-    }
-    constraints_hold(s, packet, key, slots, c)
+    each_holds(s, packet, key, slots, c)
 }

@@ -12,7 +12,7 @@ use Rattle.lvs_spec.specs.Types as type
 use Rattle.lvs_spec.specs.Model.{Edge, componentOf, destination}
 use Rattle.lvs_spec.specs.Walk.{Binding, Bindings, Match, behind}
 use Rattle.lvs_names.specs.Contents.{Alone}
-use Rattle.lvs_bindings.specs.Slots.{Room, textFrom, bindingAt, bindingsOf, without}
+use Rattle.lvs_bindings.specs.Slots.{Room, textFrom, bindingsOf, without}
 use Rattle.lvs_edges.specs.Edges.{edgeOf}
 use Rattle.lvs_edges.specs.declared.PatternFields.{PatternFields}
 use Rattle.lvs_edges.specs.declared.Crossing.{Crossing}

@@ -3,7 +3,7 @@ use borrow.Author.Needs.{needs}
 use mathlib.Core.Path.{sym, subst, _∙_}
 use Rattle.lvs_spec.specs.Walk.{argumentIn}
 use Rattle.lvs_constraints.specs.Arguments.{ArgumentAt}
-use Rattle.lvs_constraints.proofs.Bindings.{bound-argument}
+use Rattle.lvs_constraints.proofs.Bound.{bound-argument}
 use Rattle.lvs_constraints.proofs.argument_same.Statement.{statement}
 use Rattle.lvs_constraints.proofs.argument_same.Tie as tie
 

@@ -9,7 +9,7 @@ use Rattle.tlv.proofs.Gathered.{stop-end, stop-malformed, read-found, read-othe
 use Rattle.lvs_spec.specs.Types as type
 use Rattle.lvs_spec.specs.Model.{componentOf, optionOf, constraintOf}
 use Rattle.lvs_spec.specs.Walk.{optionHolds, constraintHolds}
-use Rattle.lvs_constraints.specs.Bindings.{bindingsOf}
+use Rattle.lvs_bindings.specs.Slots.{bindingsOf}
 use Rattle.lvs_constraints.proofs.constraint_holds.Statement.{statement}
 use Rattle.lvs_constraints.proofs.constraint_holds.Tie as tie
 

@@ -8,7 +8,7 @@ use Rattle.tlv.proofs.Cuts.{seen, SeenOf}
 use Rattle.tlv.proofs.Gathered.{stop-end, stop-malformed, over, each-stop, Gathered, some-of, started, ended, some-in-it, none-in-it}
 use Rattle.lvs_spec.specs.Model.{componentOf, termFrom, optionOf}
 use Rattle.lvs_spec.specs.Walk.{termHolds, optionHolds}
-use Rattle.lvs_constraints.specs.Bindings.{bindingsOf}
+use Rattle.lvs_bindings.specs.Slots.{bindingsOf}
 use Rattle.lvs_constraints.proofs.option_holds.Statement.{statement}
 use Rattle.lvs_constraints.proofs.option_holds.Tie as tie
 
