@@ -1,10 +1,11 @@
 #!/usr/bin/env python3
 """finish.py NAME [FUNCTION..]: ends proof files that hold only what a person has to say.
 
-A proof file part, proofs/FUNCTION/Part.antt, has the invariant, the measure, names for paths, and an answer for each need that
+A part, target/parts/NAME/FUNCTION.antt (with its module's folder, where it has one), has the invariant, the measure, names for paths, and an answer for each need that
 `search needs` does not close. This writes proofs/FUNCTION/Proof.antt: the part, and the closing `tie.spec` with every need in the order
 that the check asks for, `search needs` inline for those that the part does not answer. The order comes from what `rt dev NAME` prints
-for a function without a proof file. The part is removed once the proof file is written.
+for a function without a proof file, so an older proof file is removed first. A check asks only for functions whose callees are proved: the
+others are left for the next run.
 """
 import os
 import pathlib
@@ -54,21 +55,19 @@ def finished(part, skeleton):
 
 def main():
     crate, wanted = sys.argv[1], sys.argv[2:]
-    parts = [p for p in pathlib.Path("crates", crate, "proofs").rglob("Part.antt") if not wanted or p.parent.name in wanted]
-    for part in parts:
-        part.with_name("Proof.antt").unlink(missing_ok=True)
-    aside = {part: part.read_text() for part in parts}
-    for part in parts:
-        part.unlink()
+    parts = pathlib.Path("target/parts", crate)
+    proofs = pathlib.Path("crates", crate, "proofs")
+    chosen = [p.relative_to(parts).with_suffix("") for p in parts.rglob("*.antt") if not wanted or p.stem in wanted]
+    for name in chosen:
+        (proofs / name / "Proof.antt").unlink(missing_ok=True)
     found = {pathlib.Path(path).resolve(): text for path, text in skeletons(crate).items()}
-    for part, text in aside.items():
-        proof = part.with_name("Proof.antt").resolve()
+    for name in chosen:
+        proof = (proofs / name / "Proof.antt").resolve()
         if proof in found:
-            proof.write_text(finished(text, found[proof]))
+            proof.parent.mkdir(parents=True, exist_ok=True)
+            proof.write_text(finished((parts / name).with_suffix(".antt").read_text(), found[proof]))
             print("wrote", proof)
         else:
-            part.parent.mkdir(parents=True, exist_ok=True)
-            part.write_text(text)
             print("not asked for:", proof)
 
 

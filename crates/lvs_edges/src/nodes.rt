@@ -28,9 +28,16 @@ pub fn node_part(places: &[u32; PLACE_WORDS], node: u64) -> Part
     }
     let i = node as usize * 2;
     Part {
-        start: places[i] as usize,
-        end: places[i + 1] as usize,
+        start: word(places[i]),
+        end: word(places[i + 1]),
     }
+}
+
+// A word as a place. A parameter is known to fit, which an array's element read through a reference is not.
+fn word(w: u32) -> usize
+    ensures { λ r. ⌜ r ≡ w ⌝ }
+{
+    w as usize
 }
 
 // What the walk looks for in a Node: edges and signers.

@@ -1,0 +1,143 @@
+-- The answers for an edge, one law for each return. Assumes nothing.
+use Prim.Native.Nat.{ℕ, zero, suc, _-_, _≤_, _<_}
+use mathlib.Core.Path.{_≡_, refl, sym, ap, _∙_}
+use mathlib.Core.Bool.{Bool, true, false, cond, _&&_}
+use mathlib.Core.List.{List, map}
+use mathlib.Core.Option.{Option, none, some}
+use native.Mathlib.Omega.{arith}
+use lib.ListN.{length, take, drop}
+use Rattle.tlv.specs.Element.{Element}
+use Rattle.tlv.specs.Lists.{bind, guard, all}
+use Rattle.tlv.specs.Fields.{theInside, theInteger}
+use Rattle.lvs_spec.specs.Types as type
+use Rattle.lvs_spec.specs.Model.{PatternEdge, componentOf, constraintOf, valueEdgeOf, patternEdgeOf, destination}
+use Rattle.lvs_spec.specs.Names.{same}
+use Rattle.lvs_spec.specs.Walk.{Binding, Bindings, Match, bound, bindTag, boundTo, constraintHolds, crosses, behind}
+use Rattle.lvs_bindings.specs.Slots.{Room, SlotOf, textFrom, bindingAt, bindingsOf, boundWords, boundTag, without}
+use Rattle.lvs_bindings.specs.declared.Slot.{Slot}
+use Rattle.lvs_bindings.proofs.Slots.{to-end, unbound, is-bound, bound-most, bound-long, bound-bindings, bound-back}
+use Rattle.lvs_edges.specs.Edges.{edgeOf}
+use Rattle.lvs_edges.specs.Crossing.{Stands, FieldsOf, leadsTo, Crossed, CrossedValue}
+use Rattle.lvs_edges.specs.declared.PatternFields.{PatternFields}
+use Rattle.lvs_edges.specs.declared.Crossing.{Crossing}
+use Rattle.lvs_edges.specs.declared.Crossing.the-variants.{Shut, Open}
+
+led : (t : Bool) (d : ℕ) (s : Bindings)
+    → (bind {B = Match} (guard t s) λ x. some (record { node = d; bindings = x })) ≡ cond t (some (record { node = d; bindings = s })) none
+led true d s = refl
+led false d s = refl
+
+and-cond : (x y : Bool) → (x && y) ≡ cond x y false
+and-cond true y = refl
+and-cond false y = refl
+
+-- ---- a ValueEdge
+
+-- v is what its Value holds, and t whether that equals the component c
+module _ (s c : List ℕ) {v : List ℕ} (v-is : v ≡ theInside type.Value s) {t : Bool} (h : t ≡ same (componentOf v) (componentOf c)) where
+  value-leads : (β : Bindings) (b : Binding) → b .component .content ≡ componentOf c
+      → leadsTo β b (edgeOf false s) ≡ cond t (some (record { node = theInteger type.NodeId s; bindings = β })) none
+  unfolding leadsTo edgeOf behind valueEdgeOf destination
+  value-leads β b e = rw (← v-is, e, ← h) (led t (theInteger type.NodeId s) β)
+
+  pub value-shut : t ≡ false → CrossedValue s c Shut
+  value-shut f = record { leads = λ β b e. value-leads β b e ∙ rw f; binds-none = refl }
+
+  pub value-open : {d : ℕ} → t ≡ true → d ≡ theInteger type.NodeId s → CrossedValue s c (Open d 0)
+  value-open f d = record { leads = λ β b e. value-leads β b e ∙ rw (f, ← d); binds-none = refl }
+
+-- under the bindings as they stand, with the component at its place
+pub value-crossed : {packet key s c slots : List ℕ} {at : ℕ} {r : Crossing} → Room slots → Stands packet key at c → CrossedValue s c r
+    → Crossed packet key (edgeOf false s) (bindingAt packet key at (length c)) slots r slots
+unfolding bindingAt without
+value-crossed {packet} {key} {c = c} {slots = slots} {at = at} room stands value =
+    record {
+      leads = value .leads (bindingsOf packet key slots) (bindingAt packet key at (length c)) (stands .content);
+      back = rw (value .binds-none);
+      low = rw (value .binds-none) (omega arith);
+      room = room;
+    }
+
+-- ---- a PatternEdge
+
+module _ {packet key s c slots : List ℕ} {at : ℕ} {f : PatternFields} {w : Slot} (room : Room slots) (stands : Stands packet key at c)
+    (F : FieldsOf s f) (S : SlotOf slots (f .tag) w) where
+  abbrev β : Bindings
+  β = bindingsOf packet key slots
+
+  abbrev b : Binding
+  b = bindingAt packet key at (length c)
+
+  abbrev part : List ℕ
+  part = take (length s - f .rest) (drop (f .rest) s)
+
+  -- whether the edge is crossed, and where it leads then
+  pattern-leads : {t : Bool} → crosses β (componentOf c) (patternEdgeOf s) ≡ t
+      → leadsTo β b (edgeOf true s) ≡ cond t (some (record { node = f .dest; bindings = bindTag β (f .tag) b })) none
+  unfolding leadsTo edgeOf behind patternEdgeOf destination bindingAt
+  pattern-leads {t} e = rw (stands .content, e, F .destination, F .tag-is) (led t (theInteger type.NodeId s) _)
+
+  pattern-shut : crosses β (componentOf c) (patternEdgeOf s) ≡ false → Crossed packet key (edgeOf true s) b slots Shut slots
+  unfolding without
+  pattern-shut e = record { leads = pattern-leads e; back = refl; low = omega arith; room = room }
+
+  module _ {held : Bool} (held-is : held ≡ all (constraintHolds β (componentOf c)) (patternEdgeOf part .constraints)) where
+    -- the part that was tested has all Constraints of the edge
+    all-held : all (constraintHolds β (componentOf c)) (patternEdgeOf s .constraints) ≡ held
+    unfolding patternEdgeOf
+    all-held = sym (held-is ∙ rw (to-end s (f .rest), F .constraints))
+
+    -- the Tag is unbound
+    module _ (free : w .size ≡ 0) where
+      not-bound : bound β (f .tag) ≡ none
+      not-bound = unbound room packet key S free
+
+      crosses-free : crosses β (componentOf c) (patternEdgeOf s) ≡ held
+      unfolding crosses patternEdgeOf
+      crosses-free = rw (← F .tag-is, not-bound) all-held
+
+      pub free-shut : held ≡ false → Crossed packet key (edgeOf true s) b slots Shut slots
+      free-shut e = pattern-shut (crosses-free ∙ e)
+
+      pub free-open : held ≡ true → {tag : ℕ} {after : List ℕ} → (tag ≡ boundTag (f .tag)) × (after ≡ boundWords (f .tag) at (length c) slots)
+          → Crossed packet key (edgeOf true s) b slots (Open (f .dest) tag) after
+      free-open e {tag} {after} (tag-is, after-is) =
+          let bytes : length c ≡ 0 → ⊥ = λ z. omega (arith, stands .some) in
+          let now : bindingsOf packet key after ≡ bindTag β (f .tag) b =
+          ap (bindingsOf packet key) after-is ∙ bound-bindings room packet key (f .tag) at (length c) not-bound bytes in
+          record {
+            leads = rw now (pattern-leads (crosses-free ∙ e));
+            back = rw (now, tag-is) (bound-back room packet key (f .tag) at (length c) not-bound bytes);
+            low = rw tag-is (bound-most (f .tag));
+            room = record { is = rw after-is (bound-long slots (f .tag) at (length c)) ∙ room .is };
+          }
+
+    -- the Tag is bound, and t says whether to an equal component
+    module _ (taken : w .size ≡ 0 → ⊥) {text : List ℕ} {t : Bool} (text-is : text ≡ textFrom packet key (w .start)) (h : t ≡ same (componentOf text) (componentOf c)) where
+      now-bound : bound β (f .tag) ≡ some (bindingAt packet key (w .start) (w .size))
+      now-bound = is-bound room packet key S taken
+
+      crosses-bound : {x y : Bool} → t ≡ x → held ≡ y → crosses β (componentOf c) (patternEdgeOf s) ≡ cond x y false
+      unfolding crosses patternEdgeOf boundTo bindingAt
+      crosses-bound {x} {y} p q = rw (← F .tag-is, now-bound, ← text-is, ← h, p, all-held, q) (and-cond x y)
+
+      pub bound-other : t ≡ false → Crossed packet key (edgeOf true s) b slots Shut slots
+      bound-other p = pattern-shut (crosses-bound p refl)
+
+      pub bound-shut : t ≡ true → held ≡ false → Crossed packet key (edgeOf true s) b slots Shut slots
+      bound-shut p q = pattern-shut (crosses-bound p q)
+
+      -- a bound Tag keeps its first place
+      pub bound-open : t ≡ true → held ≡ true → Crossed packet key (edgeOf true s) b slots (Open (f .dest) 0) slots
+      unfolding without bound bindTag
+      bound-open p q =
+          record {
+            leads = pattern-leads (crosses-bound p q) ∙ rw (stays (f .tag) now-bound);
+            back = refl;
+            low = omega arith;
+            room = room;
+          }
+        where
+          stays : {o : Binding} (x : ℕ) → bound β x ≡ some o → bindTag β x b ≡ β
+          stays zero e = let z : _≡_ {A = ℕ} 0 1 = cc in absurd (omega arith)
+          stays (suc j) e = rw e

@@ -1,0 +1,6 @@
+pub mod Edges
+pub mod Bodies
+pub mod Places
+pub mod Plain
+pub mod Crossed
+

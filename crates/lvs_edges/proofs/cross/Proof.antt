@@ -1,0 +1,30 @@
+-- `lvs_edges::cross` meets its contract. Assumes nothing.
+use borrow.Author.Needs.{needs}
+use mathlib.Core.Bool.{Bool}
+use mathlib.Core.Path.{subst, sym}
+use lib.ListN.{length}
+use Rattle.lvs_bindings.specs.Slots.{bindingAt}
+use Rattle.lvs_edges.specs.Edges.{edgeOf}
+use Rattle.lvs_edges.specs.Crossing.{Crossed}
+use Rattle.lvs_edges.proofs.Crossed.{value-crossed}
+use Rattle.lvs_edges.proofs.cross.Statement.{statement}
+use Rattle.lvs_edges.proofs.cross.Tie as tie
+
+cross-value-requires : tie.Need-cross-value-requires
+cross-value-requires c κs = c .before .before .before .before .before .pre .1 .alone
+
+returns : tie.Need-returns
+returns c = rw (c .before .before .if1 .taken) (c .cross-pattern .ensures)
+
+returns-2 : tie.Need-returns-2
+returns-2 c =
+    let p = c .before .before .before .before .before .before .pre in
+    rw (c .before .if1 .left) (value-crossed (p .0) (p .1) (c .cross-value .ensures))
+
+pub cross-spec : {M : Type 1} → statement M
+cross-spec = tie.close
+    (tie.spec
+    (λ c κs. search needs)
+    returns
+    cross-value-requires
+    returns-2)
