@@ -57,7 +57,7 @@ body-next inv st p q =
 
 -- ---- the typed Node
 
-empty-node : noNode ≡ nodeOf []
+pub empty-node : noNode ≡ nodeOf []
 unfolding noNode nodeOf integers theInteger theInside numberOf integer insides eachCut
 empty-node = rw (cuts-end [] element-nil)
 

@@ -3,4 +3,4 @@ pub mod Bodies
 pub mod Places
 pub mod Plain
 pub mod Crossed
-
+pub mod Ordered
