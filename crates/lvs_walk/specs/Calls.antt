@@ -1,40 +1,38 @@
 -- What the two searches promise their callers, in lvs_spec's words.
-use Prim.Native.Nat.{ℕ, _≤_}
+use Prim.Native.Nat.{ℕ}
 use mathlib.Core.Path.{_≡_}
 use mathlib.Core.List.{List, []}
 use mathlib.Core.Option.{Option, none, some}
-use lib.ListN.{length, replicate}
+use lib.ListN.{replicate}
 use Rattle.tlv.specs.Lists.{first}
-use Rattle.lvs_spec.specs.Limits.{maxModelBytes, maxNodes, bindingWords}
-use Rattle.lvs_spec.specs.Types as type
 use Rattle.lvs_spec.specs.Model.{Model}
-use Rattle.tlv.specs.Fields.{insides}
 use Rattle.lvs_spec.specs.Names.{Component}
-use Rattle.lvs_spec.specs.Walk.{packetMatches, pairs}
-use Rattle.lvs_constraints.specs.Bindings.{bindingsOf}
+use Rattle.lvs_spec.specs.Walk.{Match, packetMatches, pairs}
+use Rattle.lvs_spec.specs.Answers.{SignAnswer, pairFound}
+use Rattle.lvs_bindings.specs.Slots.{slotWords, Room, bindingsOf}
 use Rattle.lvs_walk.specs.declared.Found.{Found}
 use Rattle.lvs_walk.specs.declared.Found.the-variants.{Nothing, At}
 
--- a model that rules 1 and 4 have passed
-pub record Small (model : List ℕ) : Type 0 where
-  pub short : length model ≤ maxModelBytes
-  pub few : length (insides type.Node model) ≤ maxNodes
-
 -- no Tag is bound
 abbrev pub clear : List ℕ
-clear = replicate bindingWords 0
+clear = replicate slotWords 0
 
--- the first match, and its bindings in the slots
-abbrev pub FirstMatch : Model → List Component → List ℕ → Found → List ℕ → Type 0
-FirstMatch m cs name Nothing slots = first (packetMatches m cs) ≡ none
-FirstMatch m cs name (At v k) slots = first (packetMatches m cs) ≡ some (v, bindingsOf name [] slots)
+-- the match that an answer with these slots stands for
+abbrev pub matchOf : List ℕ → Found → List ℕ → Option Match
+matchOf name Nothing slots = none
+matchOf name (At v k) slots = some (record { node = v; bindings = bindingsOf name [] slots })
 
--- the first pair
+-- the first match, with its bindings in the slots; without a key the walk ends at the packet's node
+pub record FirstMatch (m : Model) (cs : List Component) (name : List ℕ) (r : Found) (slots : List ℕ) : Type 0 where
+  pub answer : matchOf name r slots ≡ first (packetMatches m cs)
+  pub ends : (v k : ℕ) → r ≡ At v k → v ≡ k
+  pub room : Room slots
+
+-- the answer of the signing call that an answer stands for
+abbrev pub signFound : Found → SignAnswer
+signFound Nothing = SignAnswer.notAllowed
+signFound (At p k) = SignAnswer.allowed p k
+
+-- the nodes of the first pair
 abbrev pub FirstPair : Model → List Component → List Component → Found → Type 0
-FirstPair m ps ks Nothing = first (pairs m ps ks) ≡ none
-FirstPair m ps ks (At p k) = first (pairs m ps ks) ≡ some (p, k)
-
--- the first of a binding's two words
-abbrev pub wordOf : Option Component → ℕ
-wordOf none = 0
-wordOf (some c) = c .start
+FirstPair m ps ks r = signFound r ≡ pairFound (first (pairs m ps ks))

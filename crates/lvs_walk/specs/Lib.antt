@@ -1,4 +1,2 @@
-pub mod Nodes
-pub mod Hits
-pub mod Crossing
+pub mod Search
 pub mod Calls

@@ -1,0 +1,125 @@
+-- The components that are left, as the code sees them in the two names' text. Assumes nothing.
+use Prim.Native.Nat.{ℕ, _+_, _-_, _≤_, _<_}
+use mathlib.Core.Path.{_≡_, refl, sym, ap, subst, _∙_}
+use mathlib.Core.List.{List, [], _∷_}
+use native.Mathlib.Omega.{arith}
+use borrow.Author.Tests.{lt-ltb, le-ltb}
+use lib.ListN.{length, take, drop, length-drop}
+use lib.Seq.{length-take-le}
+use Rattle.lvs_spec.specs.Limits.{maxNameBytes}
+use Rattle.lvs_spec.specs.Model.{componentOf}
+use Rattle.lvs_spec.specs.Walk.{packetRow, keyRow}
+use Rattle.lvs_names.specs.Rows.{rowFrom}
+use Rattle.lvs_names.specs.Contents.{RowStep, ComponentAt}
+use Rattle.lvs_names.specs.declared.ComponentRead.{ComponentRead}
+use Rattle.lvs_names.specs.declared.ComponentRead.the-variants.{Component as AComponent, End as Ended}
+use Rattle.lvs_bindings.specs.Slots.{textFrom, placeIn, bindingAt}
+use Rattle.lvs_edges.specs.Crossing.{Stands}
+use Rattle.lvs_walk.specs.Search.{nameFor, rowFor, textPlace}
+use Rattle.lvs_walk.specs.declared.Goal.{Goal}
+use Rattle.lvs_walk.specs.declared.Goal.the-variants.{Match as AnyMatch, Packet, Key}
+
+module _ (packet key : List ℕ) (goal : Goal) where
+  pub name-short : (n : ℕ) → length packet ≤ n → length key ≤ n → length (nameFor packet key goal) ≤ n
+  unfolding nameFor
+  name-short n p k = go goal
+    where
+      go : (g : Goal) → length (nameFor packet key g) ≤ n
+      go AnyMatch = p
+      go (Packet s f) = p
+      go (Key x) = k
+
+  text-short : (at n : ℕ) → length packet ≤ n → at ≤ n → textPlace packet goal at ≤ n + n
+  unfolding textPlace
+  text-short at n p k = go goal
+    where
+      go : (g : Goal) → textPlace packet g at ≤ n + n
+      go AnyMatch = omega arith
+      go (Packet s f) = omega arith
+      go (Key x) = omega arith
+
+  module _ (at : ℕ) (inside : at < length (nameFor packet key goal)) where
+    text-is : textFrom packet key (textPlace packet goal at) ≡ drop at (nameFor packet key goal)
+    unfolding textFrom textPlace nameFor
+    text-is = go goal inside
+      where
+        go : (g : Goal) → at < length (nameFor packet key g) → textFrom packet key (textPlace packet g at) ≡ drop at (nameFor packet key g)
+        go AnyMatch h = rw (lt-ltb at (length packet) h)
+        go (Packet s f) h = rw (lt-ltb at (length packet) h)
+        go (Key p) h = let e : length packet + at - length packet ≡ at = omega arith in rw (le-ltb (length packet + at) (length packet) (omega arith), e)
+
+    place-is : placeIn packet (textPlace packet goal at) ≡ at
+    unfolding placeIn textPlace nameFor
+    place-is = go goal inside
+      where
+        go : (g : Goal) → at < length (nameFor packet key g) → placeIn packet (textPlace packet g at) ≡ at
+        go AnyMatch h = rw (lt-ltb at (length packet) h)
+        go (Packet s f) h = rw (lt-ltb at (length packet) h)
+        go (Key p) h = rw (le-ltb (length packet + at) (length packet) (omega arith)) (omega arith)
+
+  -- the row goes on with the component that was found
+  row-found : {at stop : ℕ} → RowStep (nameFor packet key goal) at stop
+      → rowFor packet key goal at ≡ bindingAt packet key (textPlace packet goal at) (stop - at) ∷ rowFor packet key goal stop
+  unfolding bindingAt rowFor nameFor packetRow keyRow
+  row-found {at} {stop} f =
+      let inside : at < length (nameFor packet key goal) = omega (arith, f .after, f .within) in
+      rw (place-is at inside, text-is at inside) (go goal f)
+    where
+      go : (g : Goal) → RowStep (nameFor packet key g) at stop
+          → rowFor packet key g at ≡ record { component = record { start = at; size = stop - at; content = componentOf (drop at (nameFor packet key g)) } } ∷ rowFor packet key g stop
+      go AnyMatch f = rw (f .is)
+      go (Packet s k) f = rw (f .is)
+      go (Key p) f = rw (f .is)
+
+  row-ended : {at : ℕ} → rowFrom (nameFor packet key goal) at ≡ [] → rowFor packet key goal at ≡ []
+  unfolding rowFor nameFor packetRow keyRow
+  row-ended {at} e = go goal e
+    where
+      go : (g : Goal) → rowFrom (nameFor packet key g) at ≡ [] → rowFor packet key g at ≡ []
+      go AnyMatch e = rw e
+      go (Packet s k) e = rw e
+      go (Key p) e = rw e
+
+-- ---- from what the callees ensure
+
+-- a component was found at a place of the goal's name
+pub record Component (packet key : List ℕ) (goal : Goal) (at stop text : ℕ) (c : List ℕ) : Type 0 where
+  pub after : at < stop
+  pub within : stop ≤ length (nameFor packet key goal)
+  pub stands : Stands packet key text c
+  pub row-is : rowFor packet key goal at ≡ bindingAt packet key text (length c) ∷ rowFor packet key goal stop
+
+module _ {packet key : List ℕ} {goal : Goal} {at : ℕ} {name : List ℕ} (name-is : name ≡ nameFor packet key goal) {r : ComponentRead} (read : ComponentAt name at r) where
+  pub has-component : {stop : ℕ} → r ≡ AComponent stop → RowStep (nameFor packet key goal) at stop
+  has-component {stop} e = rw name-is at (subst (ComponentAt name at) e read)
+
+  pub no-component : r ≡ Ended → rowFor packet key goal at ≡ []
+  no-component e = row-ended packet key goal (rw name-is at (subst (ComponentAt name at) e read))
+
+module _ {packet key : List ℕ} {goal : Goal} {name c : List ℕ} {at stop text : ℕ} (packet-short : length packet ≤ maxNameBytes)
+    (key-short : length key ≤ maxNameBytes) (name-is : name ≡ nameFor packet key goal) (c-is : c ≡ take (stop - at) (drop at name))
+    (text-at : text ≡ textPlace packet goal at) (f : RowStep (nameFor packet key goal) at stop) where
+  c-there : c ≡ take (stop - at) (drop at (nameFor packet key goal))
+  c-there = rw name-is at c-is
+
+  size-is : length c ≡ stop - at
+  size-is = ap length c-there ∙ length-take-le (stop - at) (drop at (nameFor packet key goal)) (omega (arith, f .within, length-drop at (nameFor packet key goal)))
+
+  pub component : Component packet key goal at stop text c
+  component =
+      let inside : at < length (nameFor packet key goal) = omega (arith, f .after, f .within) in
+      let t : textFrom packet key text ≡ drop at (nameFor packet key goal) = rw text-at (text-is packet key goal at inside) in
+      let short = name-short packet key goal maxNameBytes packet-short key-short in
+      let low = text-short packet key goal at maxNameBytes packet-short (omega (arith, short)) in
+      record {
+        after = f .after;
+        within = f .within;
+        stands = record {
+          alone = rw c-there (f .alone);
+          content = rw (t, c-there) (sym (f .content));
+          low = omega (arith, low, text-at);
+          short = omega (arith, size-is, short, f .within);
+          some = omega (arith, size-is, f .after);
+        };
+        row-is = rw (text-at, size-is) (row-found packet key goal f);
+      }
