@@ -1,6 +1,5 @@
 """The answers of the three calls, read from the driver's lines: each as words, as an object for --json, and as an exit status."""
-from dataclasses import asdict, dataclass
-from typing import ClassVar
+from collections import namedtuple
 
 from name import component_uri
 
@@ -14,25 +13,20 @@ def counted(n, what):
     return f"{n} {what}{'' if n == 1 else 's'}"
 
 
-@dataclass(frozen=True)
 class Answer:
-    """`labels` has the names that the model gives its nodes and tags (model.py)."""
+    """What the call answered, and its numbers. `labels` has the names that the model gives its nodes and tags (model.py)."""
 
-    answer: ClassVar[str]
-    status: ClassVar[int]
+    answer = status = None
 
     def words(self, labels=None):
         return self.answer
 
     def object(self, labels=None):
-        return {"answer": self.answer, **asdict(self)}
+        return {"answer": self.answer, **self._asdict()}
 
 
-@dataclass(frozen=True)
-class Refused(Answer):
+class Refused(Answer, namedtuple("Numbers", "number node")):
     answer, status = "refused", REFUSED
-    number: int
-    node: int
 
     def words(self, labels=None):
         row = refusal(self.number)
@@ -42,21 +36,15 @@ class Refused(Answer):
         return {**super().object(), "meaning": refusal(self.number).meaning}
 
 
-@dataclass(frozen=True)
-class Accepted(Answer):
+class Accepted(Answer, namedtuple("Numbers", "nodes")):
     answer, status = "accepted", YES
-    nodes: int
 
     def words(self, labels=None):
         return f"accepted: {counted(self.nodes, 'node')}"
 
 
-@dataclass(frozen=True)
-class Match(Answer):
+class Match(Answer, namedtuple("Numbers", "node bound buffer")):
     answer, status = "match", YES
-    node: int
-    bound: int
-    buffer: tuple
 
     def words(self, labels):
         return f"match: {labels.node(self.node)}, {counted(self.bound, 'tag')} bound"
@@ -71,16 +59,12 @@ class Match(Answer):
                 yield tag, start, length, component_uri(name[start : start + length])
 
 
-@dataclass(frozen=True)
-class NoMatch(Answer):
+class NoMatch(Answer, namedtuple("Numbers", "")):
     answer, status = "no match", NO
 
 
-@dataclass(frozen=True)
-class Allowed(Answer):
+class Allowed(Answer, namedtuple("Numbers", "packet_node key_node")):
     answer, status = "allowed", YES
-    packet_node: int
-    key_node: int
 
     def words(self, labels):
         return f"allowed: packet at {labels.node(self.packet_node)}, key at {labels.node(self.key_node)}"
@@ -90,13 +74,12 @@ class Allowed(Answer):
         return {**super().object(), **rules}
 
 
-@dataclass(frozen=True)
-class NotAllowed(Answer):
+class NotAllowed(Answer, namedtuple("Numbers", "")):
     answer, status = "not allowed", NO
 
 
 def read_answer(line):
-    """The answer in a line of lvs_cases. Behind that of a match call stand all words of the buffer."""
+    """The answer in a line of lvs_cases. A match call's line goes on with all words of the buffer."""
     words = line.split()
     numbers = [int(word) for word in words if word.isdigit()]
     if words[:1] == ["accepted"] and len(numbers) == 1:

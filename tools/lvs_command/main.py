@@ -9,7 +9,7 @@ from .parser import Parser
 
 SUBCOMMANDS = judge, match, sign, tree
 
-DESCRIPTION = "Asks a compiled Light VerSec (LVS) model. The answers are those of the proved library, in words."
+DESCRIPTION = "Asks a compiled Light VerSec (LVS) model. The answers are the proved library's, in words."
 EPILOG = """\
 MODEL is a file, or - for standard input. A name is a URI, or 0x and bytes in hexadecimal:
   /ndn/blog/x   ndn:/a/%2Fb   /ndn/v=3   /8=x/...   0x0703080161
@@ -52,4 +52,7 @@ def main(words=None):
         if isinstance(fault, BrokenPipeError):
             return 128 + signal.SIGPIPE
         print(f"lvs: cannot write the answer: {fault.strerror}", file=sys.stderr)
+        return ERROR
+    except Exception:  # a fault of this command must not be taken for an answer: Python's own status would be 1
+        sys.excepthook(*sys.exc_info())
         return ERROR

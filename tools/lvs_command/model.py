@@ -2,9 +2,8 @@
 
 Only of bytes that the driver did not refuse with 1 to 3: these are well formed, so no fault is looked for.
 """
-from dataclasses import dataclass, field
 from functools import cached_property
-from typing import NamedTuple, Optional
+from typing import NamedTuple
 
 from name import component_uri, elements
 
@@ -25,7 +24,7 @@ KNOWN = {VALUE, TAG, NODE_ID, FN_ID, IDENTIFIER, SIGNER, PARENT, VERSION, PATTER
 
 
 class Skipped(NamedTuple):
-    """An optional element, which the calls pass over, and the container that it stands in."""
+    """An optional element, which the calls skip, and the container that it is in."""
 
     container: str
     type: int
@@ -48,32 +47,27 @@ class Call(NamedTuple):
     arguments: list  # of Value and Tag
 
 
-@dataclass
 class Edge:
-    to: int = 0
-    value: Optional[Value] = None  # of a ValueEdge
-    tag: Optional[Tag] = None  # of a PatternEdge
-    constraints: list = field(default_factory=list)  # each a list of options, each a list of Value, Tag and Call
-    skipped: list = field(default_factory=list)  # anywhere in the edge
+    def __init__(self):
+        self.to = 0
+        self.value = None  # a Value, of a ValueEdge
+        self.tag = None  # a Tag, of a PatternEdge
+        self.constraints = []  # each a list of options, each a list of Value, Tag and Call
+        self.skipped = []  # anywhere in the edge
 
 
-@dataclass
 class Node:
-    id: int = 0
-    parent: Optional[int] = None
-    rules: list = field(default_factory=list)
-    edges: list = field(default_factory=list)
-    signers: list = field(default_factory=list)
-    skipped: list = field(default_factory=list)  # in the Node itself
+    def __init__(self):
+        self.id, self.parent = 0, None
+        self.rules, self.edges, self.signers = [], [], []
+        self.skipped = []  # in the Node itself
 
 
-@dataclass
 class Model:
-    start: int = 0
-    patterns: int = 0
-    nodes: list = field(default_factory=list)
-    symbols: list = field(default_factory=list)  # (Tag, symbol), in file order
-    skipped: list = field(default_factory=list)  # at the top and in TagSymbols
+    def __init__(self):
+        self.start, self.patterns, self.nodes = 0, 0, []
+        self.symbols = []  # (Tag, symbol), in file order
+        self.skipped = []  # at the top and in TagSymbols
 
 
 def integer(inside):

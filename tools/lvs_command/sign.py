@@ -36,7 +36,7 @@ RUN_PAIRS, RUN_BYTES = 2000, 1 << 23  # for one run of the driver: pairs, and by
 def add(commands):
     command = add_command(commands, "sign", run, "Say whether a key may sign a packet, by their names.", DETAILS)
     command.add_argument("packet", metavar="PACKET", help="the packet's name, or - for pairs of names from standard input")
-    command.add_argument("key", metavar="KEY", nargs="?", help="the key's name")
+    command.add_argument("key", metavar="KEY", nargs="?", help="the key's name, where the packet's is given")
     command.set_defaults(parser=command)
 
 
@@ -81,6 +81,7 @@ def sign_lines(args):
         for line in part:
             status = max(status, show_error(args, line) if line.error else show_line(args, line, next(answers), labels))
         done += len(part)
+        sys.stdout.flush()
         progress.show(done)
     progress.clear()
     if not done:
@@ -126,7 +127,6 @@ class Progress:
 
     def show(self, done):
         if done >= RUN_PAIRS and sys.stderr.isatty():
-            sys.stdout.flush()
             print(f"lvs: {counted(done, 'pair')} answered", end="", file=sys.stderr, flush=True)
             self.is_shown = True
 

@@ -88,7 +88,7 @@ class Tree:
                 to_do += [(depth + 1, i, out, out.to) for out in reversed(self.model.nodes[i].edges)]
 
     def line(self, source, edge, i):
-        """One node, behind the edge that leads to it. What an accepted model can't have is noted."""
+        """One node, after the edge that leads to it. What an accepted model can't have is noted."""
         before = f"{self.edge(edge)} -> " if edge else ""
         if i >= len(self.model.nodes):
             return f"{before}node {i} (no such node)"
