@@ -466,6 +466,8 @@ def check_streams(folder):
     for words, status, out, err in (
         ("judge a.lvs >/dev/full", 3, "", "lvs: cannot write the answer: No space left on device\n"),
         ("judge r2.lvs >&-", 2, "", ""),
+        ("judge none 2>/dev/full", 3, "", ""),
+        ("judge none 2>&-", 3, "", ""),
         ("judge - <&-", 3, "", "lvs: standard input is closed\n"),
         ("sign a.lvs - <&-", 3, "", "lvs: standard input is closed\n"),
         ("judge - 0>/dev/null", 3, "", "lvs: cannot read the model '-': Bad file descriptor\n"),
@@ -581,6 +583,10 @@ def check_builds(folder):
     if not any(os.path.exists(f"{place}/rt") for place in ("/usr/bin", "/bin")):
         text = "lvs: the checker has to be built with `rt` of the Rattle toolchain, which is not in PATH\n"
         check("no rt", judged(), (3, "", text))
+    (bin_folder / "rt").parent.mkdir()
+    (bin_folder / "rt").write_text("no program")
+    (bin_folder / "rt").chmod(0o755)
+    check("an rt that is no program", judged(), (3, "", f"{BUILDING}lvs: cannot run {bin_folder / 'rt'}: Exec format error\n"))
     programmed(bin_folder / "rt", "echo 'rt: tlv proved (1 s)'; echo 'no proof' >&2; exit 1")
     failed = "lvs: the build failed: `rt check lvs_cases` ended with status 1. Its last lines:\n  rt: tlv proved (1 s)\n  no proof\n"
     check("a failed build", judged(), (3, "", f"{BUILDING}lvs: rt: tlv proved (1 s)\n{failed}"))
@@ -597,7 +603,7 @@ def check_builds(folder):
     programmed(driver, "cat >/dev/null; echo broken")
     check("a broken case", judged(), (3, "", "lvs: lvs_cases printed 'broken', which is no answer\n"))
     programmed(driver, "cat >/dev/null; exit 4")
-    check("no answer", judged(), (3, "", "lvs: lvs_cases ended with status 4 and 0 lines for 1 cases\n"))
+    check("no answer", judged(), (3, "", "lvs: lvs_cases ended with status 4 and 0 lines for 1 case\n"))
     programmed(driver, "cat >/dev/null; echo accepted 1")
     text = "lvs: lvs_cases takes only 65,536 bytes of this input, and answers 'accepted 1'\n"
     check("an answer to a cut model", judged("long.lvs"), (3, "", text))

@@ -30,7 +30,7 @@ class Refused(Answer, namedtuple("Numbers", "number node")):
 
     def words(self, labels=None):
         row = refusal(self.number)
-        return f"refused {self.number}{f' at node {self.node}' if row.names_node else ''}: {row.meaning}"
+        return f"refused {self.number}{f' at {row.at} {self.node}' if row.at else ''}: {row.meaning}"
 
     def object(self, labels=None):
         return {**super().object(), "meaning": refusal(self.number).meaning}

@@ -4,11 +4,11 @@ import os
 import pathlib
 import shutil
 import subprocess
-import sys
+import time
 from typing import NamedTuple
 
-from .answers import WORDS, Refused, read_answer
-from .errors import Failure
+from .answers import WORDS, Refused, counted, read_answer
+from .errors import Failure, say
 
 ROOT = pathlib.Path(__file__).resolve().parents[2]
 PROGRAM = ROOT / "target/bin/lvs_cases"
@@ -59,14 +59,14 @@ def answer_of(case, line):
 
 def ask(cases):
     """The answers to cases, from one run of the driver."""
-    given = b"".join(map(written, cases))
+    given, path = b"".join(map(written, cases)), program()
     try:
-        ran = subprocess.run([program()], input=given, stdout=subprocess.PIPE)
+        ran = subprocess.run([path], input=given, stdout=subprocess.PIPE)
     except OSError as fault:
-        raise Failure(f"cannot run {PROGRAM}: {fault.strerror}") from None
+        raise Failure(f"cannot run {path}: {fault.strerror}") from None
     lines = ran.stdout.decode("ascii", "replace").splitlines()
     if ran.returncode != 0 or len(lines) != len(cases):
-        raise Failure(f"lvs_cases ended with status {ran.returncode} and {len(lines)} lines for {len(cases)} cases")
+        raise Failure(f"lvs_cases ended with status {ran.returncode} and {counted(len(lines), 'line')} for {counted(len(cases), 'case')}")
     return list(map(answer_of, cases, lines))
 
 
@@ -99,17 +99,24 @@ def build():
     if rt is None:
         raise Failure("the checker has to be built with `rt` of the Rattle toolchain, which is not in PATH")
     say("building the checker with `rt check lvs_cases`; the first time this proves ten crates, in about four minutes")
+    began = time.time()
+    try:
+        status, lines = run_rt([rt, "check", "lvs_cases"])
+    except OSError as fault:
+        raise Failure(f"cannot run {rt}: {fault.strerror}") from None
+    if status != 0 or not PROGRAM.exists():
+        last = "".join(f"\n  {line}" for line in lines[-20:])
+        raise Failure(f"the build failed: `rt check lvs_cases` ended with status {status}. Its last lines:{last}")
+    os.utime(PROGRAM, (began, began))  # a file that was changed since then is newer; and rt leaves alone what needs no building
+
+
+def run_rt(words):
+    """rt's status and all its lines; its own ones are shown while it runs."""
     lines = []
-    with subprocess.Popen([rt, "check", "lvs_cases"], cwd=ROOT, stdout=subprocess.PIPE, stderr=subprocess.STDOUT) as building:
-        for line in building.stdout:
+    with subprocess.Popen(words, cwd=ROOT, stdout=subprocess.PIPE, stderr=subprocess.STDOUT) as running:
+        for line in running.stdout:
             lines.append(line.decode("utf-8", "replace").rstrip())
             if lines[-1].startswith("rt: "):
                 say(lines[-1])
-    if building.returncode != 0 or not PROGRAM.exists():
-        last = "".join(f"\n  {line}" for line in lines[-20:])
-        raise Failure(f"the build failed: `rt check lvs_cases` ended with status {building.returncode}. Its last lines:{last}")
-    os.utime(PROGRAM)  # rt leaves the program alone where nothing that it is made of has changed
+    return running.returncode, lines
 
-
-def say(text):
-    print(f"lvs: {text}", file=sys.stderr, flush=True)

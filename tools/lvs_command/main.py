@@ -4,7 +4,7 @@ import signal
 import sys
 
 from . import judge, match, sign, tree
-from .errors import ERROR, Failure
+from .errors import ERROR, Failure, say
 from .parser import Parser
 
 SUBCOMMANDS = judge, match, sign, tree
@@ -43,7 +43,7 @@ def main(words=None):
             if sys.stdout:
                 sys.stdout.flush()
     except Failure as failure:
-        print(f"lvs: {failure}", file=sys.stderr)
+        say(failure)
         return ERROR
     except KeyboardInterrupt:
         return 128 + signal.SIGINT
@@ -51,7 +51,7 @@ def main(words=None):
         os.dup2(os.open(os.devnull, os.O_WRONLY), sys.stdout.fileno())  # or Python tries again when it ends
         if isinstance(fault, BrokenPipeError):
             return 128 + signal.SIGPIPE
-        print(f"lvs: cannot write the answer: {fault.strerror}", file=sys.stderr)
+        say(f"cannot write the answer: {fault.strerror}")
         return ERROR
     except Exception:  # a fault of this command must not be taken for an answer: Python's own status would be 1
         sys.excepthook(*sys.exc_info())

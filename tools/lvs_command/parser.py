@@ -7,7 +7,7 @@ import sys
 from name import Malformed, name_or_bytes
 
 from .driver import MODEL
-from .errors import ERROR, Failure
+from .errors import ERROR, Failure, say
 
 
 class Parser(argparse.ArgumentParser):
@@ -15,7 +15,7 @@ class Parser(argparse.ArgumentParser):
         super().__init__(formatter_class=argparse.RawDescriptionHelpFormatter, allow_abbrev=False, **words)
 
     def error(self, message):
-        print(f"{self.prog}: {message} (see {self.prog} --help)", file=sys.stderr)
+        say(f"{message} (see {self.prog} --help)", self.prog)
         sys.exit(ERROR)
 
 

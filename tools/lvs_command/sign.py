@@ -7,7 +7,7 @@ from name import pair, word_lines
 
 from . import driver
 from .answers import Refused, counted
-from .errors import ERROR, YES, Failure
+from .errors import ERROR, YES, Failure, say
 from .model import Labels
 from .parser import add_command, input_lines, model_bytes, name_bytes, print_object, show, standard_input
 
@@ -73,17 +73,17 @@ def sign_lines(args):
     verdict = driver.judge(model)
     if isinstance(verdict, Refused):
         return show(args, verdict)
-    status, done, progress = YES, 0, Progress()
+    status, done = YES, 0
     lines = (Line(number, words, model) for number, words in word_lines(input_lines()))
-    for part in runs(lines, len(model)):
-        answers = iter(driver.ask([line.case for line in part if line.case]))
-        progress.clear()
-        for line in part:
-            status = max(status, show_error(args, line) if line.error else show_line(args, line, next(answers), labels))
-        done += len(part)
-        sys.stdout.flush()
-        progress.show(done)
-    progress.clear()
+    with Progress() as progress:
+        for part in runs(lines, len(model)):
+            answers = iter(driver.ask([line.case for line in part if line.case]))
+            progress.clear()
+            for line in part:
+                status = max(status, show_error(args, line) if line.error else show_line(args, line, next(answers), labels))
+            done += len(part)
+            sys.stdout.flush()
+            progress.show(done)
     if not done:
         raise Failure("standard input has no pair of names")
     return status
@@ -110,7 +110,7 @@ def show_error(args, line):
         print_object({"line": line.number, "answer": "error", "error": line.error})
     else:
         sys.stdout.flush()
-        print(f"lvs: line {line.number}: {line.error}", file=sys.stderr)
+        say(f"line {line.number}: {line.error}")
     return ERROR
 
 
@@ -122,11 +122,16 @@ def printable(uri):
 class Progress:
     """How many pairs are answered, as a line that is written over; on a terminal only, and when one run is not enough."""
 
-    def __init__(self):
-        self.is_shown = False
+    is_shown = False
+
+    def __enter__(self):
+        return self
+
+    def __exit__(self, *fault):
+        self.clear()
 
     def show(self, done):
-        if done >= RUN_PAIRS and sys.stderr.isatty():
+        if done >= RUN_PAIRS and sys.stderr and sys.stderr.isatty():
             print(f"lvs: {counted(done, 'pair')} answered", end="", file=sys.stderr, flush=True)
             self.is_shown = True
 

@@ -53,7 +53,7 @@ class Tree:
         self.shown = set()
         self.is_accepted = not isinstance(verdict, Refused)
         self.marked, self.mark = None, ""
-        if not self.is_accepted and refusal(verdict.number).names_node:
+        if not self.is_accepted and refusal(verdict.number).at == "node":
             self.marked, self.mark = verdict.node, f"  <- refused {verdict.number}"
 
     def lines(self):
