@@ -589,11 +589,12 @@ def check_builds(folder):
     check("an rt that is no program", judged(), (3, "", f"{BUILDING}lvs: cannot run {bin_folder / 'rt'}: Exec format error\n"))
     programmed(bin_folder / "rt", "echo 'rt: tlv proved (1 s)'; echo 'no proof' >&2; exit 1")
     failed = "lvs: the build failed: `rt check lvs_cases` ended with status 1. Its last lines:\n  rt: tlv proved (1 s)\n  no proof\n"
-    check("a failed build", judged(), (3, "", f"{BUILDING}lvs: rt: tlv proved (1 s)\n{failed}"))
+    check("a failed build", judged(), (3, "", f"{BUILDING}rt: tlv proved (1 s)\n{failed}"))
     programmed(bin_folder / "rt", "exit 0")
-    check("a build without a program", judged(), (3, "", f"{BUILDING}lvs: the build failed: `rt check lvs_cases` ended with status 0. Its last lines:\n"))
+    text = f"lvs: rt takes {driver} for built, but it is not there: remove {folder / 'target'} and try again\n"
+    check("a build without a program", judged(), (3, "", BUILDING + text))
     programmed(bin_folder / "rt", f"echo \"rt: $* in $PWD\"; mkdir -p target/bin; cp -p '{ROOT}/target/bin/lvs_cases' target/bin/")
-    built = f"{BUILDING}lvs: rt: check lvs_cases in {folder}\n"
+    built = f"{BUILDING}rt: check lvs_cases in {folder}\n"
     check("the first use", judged(), (0, "accepted: 2 nodes\n", built))
     check("the second use", judged(), (0, "accepted: 2 nodes\n", ""))
     os.utime(source, (driver.stat().st_mtime + 10,) * 2)

@@ -104,7 +104,9 @@ def build():
         status, lines = run_rt([rt, "check", "lvs_cases"])
     except OSError as fault:
         raise Failure(f"cannot run {rt}: {fault.strerror}") from None
-    if status != 0 or not PROGRAM.exists():
+    if status == 0 and not PROGRAM.exists():  # rt goes by the sources: it does not see that the program was removed
+        raise Failure(f"rt takes {PROGRAM} for built, but it is not there: remove {ROOT / 'target'} and try again")
+    if status != 0:
         last = "".join(f"\n  {line}" for line in lines[-20:])
         raise Failure(f"the build failed: `rt check lvs_cases` ended with status {status}. Its last lines:{last}")
     os.utime(PROGRAM, (began, began))  # a file that was changed since then is newer; and rt leaves alone what needs no building
@@ -117,6 +119,6 @@ def run_rt(words):
         for line in running.stdout:
             lines.append(line.decode("utf-8", "replace").rstrip())
             if lines[-1].startswith("rt: "):
-                say(lines[-1])
+                say(lines[-1].removeprefix("rt: "), "rt")
     return running.returncode, lines
 
