@@ -46,7 +46,7 @@ NAMED = model(
     node(5, element(VALUE_EDGE, node_id(6), element(0xFFFE, b""), value("y"))),
     node(6, parent(5)),
     patterns=2,
-    behind=symbol(1, "user") + element(SYMBOL, tag(2), element(0x80, b"z"), element(IDENTIFIER, b"part")) + symbol(3, "part"),
+    behind=symbol(1, "user") + element(SYMBOL, tag(2), element(0x80, b"z"), element(IDENTIFIER, b"part")) + symbol(3, "part") + symbol(1, "again"),
 )
 CYCLE = model(node(0, parent(1), value_edge(1, "a")), node(1, parent(0), value_edge(0, "b")))
 ANY = tree([(1,), (2,), (3,), (4,), (5,), (6,), (7,), ()])  # seven components, each bound
@@ -286,7 +286,7 @@ node 0 (start)
     yield Run(["tree", "named.lvs"], 0, """\
 accepted: 7 nodes
 start at node 0, 2 named patterns
-symbols: tag 1 = user, tag 2 = part, tag 3 = part
+symbols: tag 1 = user, tag 2 = part, tag 3 = part, tag 1 = again
 optional element 0x80, 1 byte, in the TagSymbol
 node 0 (#top, start)
   "v=3" -> node 1 (#time, #v)
@@ -344,7 +344,7 @@ def named_objects():
         return {"node": i, "node_id": i, "parent": up, "rules": rules, "edges": edges, "signers": signers, "optional": optional}
 
     yield {"answer": "accepted", "nodes": 7}
-    symbols = [{"tag": 1, "symbol": "user"}, {"tag": 2, "symbol": "part"}, {"tag": 3, "symbol": "part"}]
+    symbols = [{"tag": tag, "symbol": text} for tag, text in ((1, "user"), (2, "part"), (3, "part"), (1, "again"))]
     yield {"start": 0, "named_patterns": 2, "symbols": symbols, "optional": [{"in": "TagSymbol", "type": 128, "bytes": 1}]}
     yield shown(0, None, ["#top"], [{"to": 1, "value": "v=3", "optional": []}, {"to": 2, "tag": 1, "constraints": [], "optional": []}])
     options = [[{"value": "x"}], [{"tag": 1}]]
@@ -593,27 +593,29 @@ def check_builds(folder):
     programmed(bin_folder / "rt", "exit 0")
     text = f"lvs: rt takes {driver} for built, but it is not there: remove {folder / 'target'} and try again\n"
     check("a build without a program", judged(), (3, "", BUILDING + text))
-    programmed(bin_folder / "rt", f"echo \"rt: $* in $PWD\"; mkdir -p target/bin; cp -p '{ROOT}/target/bin/lvs_cases' target/bin/")
+    programmed(bin_folder / "rt", f"echo \"rt: $* in $PWD\"; mkdir -p target/bin; cp '{ROOT}/target/bin/lvs_cases' target/bin/; touch -d @9 target/bin/*")
     built = f"{BUILDING}rt: check lvs_cases in {folder}\n"
     check("the first use", judged(), (0, "accepted: 2 nodes\n", built))
     check("the second use", judged(), (0, "accepted: 2 nodes\n", ""))
-    os.utime(source, (driver.stat().st_mtime + 10,) * 2)
+    os.utime(source, (driver.stat().st_mtime + 0.01,) * 2)
     check("a crate has changed", judged(), (0, "accepted: 2 nodes\n", built))
+    check("the use after that", judged(), (0, "accepted: 2 nodes\n", ""))
     os.utime(source, (1, 1))
     # drivers that do not answer as the command expects
     programmed(driver, "cat >/dev/null; echo broken")
     check("a broken case", judged(), (3, "", "lvs: lvs_cases printed 'broken', which is no answer\n"))
     programmed(driver, "cat >/dev/null; exit 4")
     check("no answer", judged(), (3, "", "lvs: lvs_cases ended with status 4 and 0 lines for 1 case\n"))
-    programmed(driver, "cat >/dev/null; echo accepted 1")
-    text = "lvs: lvs_cases takes only 65,536 bytes of this input, and answers 'accepted 1'\n"
-    check("an answer to a cut model", judged("long.lvs"), (3, "", text))
+    for line in ("accepted 1", "refused 2 0"):
+        programmed(driver, f"cat >/dev/null; echo {line}")
+        text = f"lvs: lvs_cases takes only 65,536 bytes of this input, and answers {line!r}\n"
+        check(f"{line} of a cut model", judged("long.lvs"), (3, "", text))
     driver.write_bytes(b"no program")
     check("no program", judged(), (3, "", f"lvs: cannot run {driver}: Exec format error\n"))
 
 
 def main_checks():
-    signal.alarm(300)  # a run that waits for ever ends the checks
+    signal.alarm(180)  # a run that waits for ever ends the checks
     with tempfile.TemporaryDirectory() as name:
         folder = pathlib.Path(name).resolve()
         for file, data in FILES.items():
