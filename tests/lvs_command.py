@@ -7,6 +7,7 @@ Every subcommand, every exit status, every refusal and every error text; the exa
 of tools/ with another rt. Models are made with tests/cases/build.py.
 """
 import concurrent.futures
+import functools
 import json
 import os
 import pathlib
@@ -26,7 +27,7 @@ import name as names  # noqa: E402
 import uris  # noqa: E402
 from bench import A, B  # noqa: E402
 from build import *  # noqa: E402, F403
-from lvs_command import answers, refusals  # noqa: E402
+from lvs_command import answers, driver, refusals  # noqa: E402
 
 EXAMPLE = (ROOT / "example/model.lvs").read_bytes()
 REQUESTS = (ROOT / "example/requests.txt").read_text()
@@ -474,9 +475,9 @@ def check_streams(folder):
         ("sign a.lvs - 0>/dev/null", 3, "", "lvs: cannot read standard input: Bad file descriptor\n"),
     ):
         check(words, run([f"{shell} {words}"], folder, command=["bash", "-c"]), (status, out, err))
-    with subprocess.Popen(
-        [*COMMAND, "sign", "a.lvs", "-"], cwd=folder, stdin=subprocess.PIPE, stdout=subprocess.PIPE, stderr=subprocess.PIPE
-    ) as running:
+    pipes = {"stdin": subprocess.PIPE, "stdout": subprocess.PIPE, "stderr": subprocess.PIPE}
+    heard = functools.partial(signal.signal, signal.SIGINT, signal.SIG_DFL)  # what runs in the background ignores it, and hands that on
+    with subprocess.Popen([*COMMAND, "sign", "a.lvs", "-"], cwd=folder, preexec_fn=heard, **pipes) as running:
         running.stdin.write(b"/a /b\n" * 2000)
         running.stdin.flush()
         line = running.stdout.readline()  # it waits for more pairs now
@@ -572,7 +573,7 @@ BUILDING = "lvs: building the checker with `rt check lvs_cases`; the first time 
 
 def check_builds(folder):
     source = copied(folder)
-    bin_folder, driver = folder / "bin", folder / "target/bin/lvs_cases"
+    bin_folder, program = folder / "bin", folder / "target/bin/lvs_cases"
     (folder / "b.lvs").write_bytes(B)
     (folder / "long.lvs").write_bytes(bytes(65537))
 
@@ -591,30 +592,31 @@ def check_builds(folder):
     failed = "lvs: the build failed: `rt check lvs_cases` ended with status 1. Its last lines:\n  rt: tlv proved (1 s)\n  no proof\n"
     check("a failed build", judged(), (3, "", f"{BUILDING}rt: tlv proved (1 s)\n{failed}"))
     programmed(bin_folder / "rt", "exit 0")
-    text = f"lvs: rt takes {driver} for built, but it is not there: remove {folder / 'target'} and try again\n"
+    text = f"lvs: rt takes {program} for built, but it is not there: remove {folder / 'target'} and try again\n"
     check("a build without a program", judged(), (3, "", BUILDING + text))
     programmed(bin_folder / "rt", f"echo \"rt: $* in $PWD\"; mkdir -p target/bin; cp '{ROOT}/target/bin/lvs_cases' target/bin/; touch -d @9 target/bin/*")
     built = f"{BUILDING}rt: check lvs_cases in {folder}\n"
     check("the first use", judged(), (0, "accepted: 2 nodes\n", built))
     check("the second use", judged(), (0, "accepted: 2 nodes\n", ""))
-    os.utime(source, (driver.stat().st_mtime + 0.01,) * 2)
+    os.utime(source, (program.stat().st_mtime + 0.01,) * 2)
     check("a crate has changed", judged(), (0, "accepted: 2 nodes\n", built))
     check("the use after that", judged(), (0, "accepted: 2 nodes\n", ""))
     os.utime(source, (1, 1))
     # drivers that do not answer as the command expects
-    programmed(driver, "cat >/dev/null; echo broken")
+    programmed(program, "cat >/dev/null; echo broken")
     check("a broken case", judged(), (3, "", "lvs: lvs_cases printed 'broken', which is no answer\n"))
-    programmed(driver, "cat >/dev/null; exit 4")
+    programmed(program, "cat >/dev/null; exit 4")
     check("no answer", judged(), (3, "", "lvs: lvs_cases ended with status 4 and 0 lines for 1 case\n"))
     for line in ("accepted 1", "refused 2 0"):
-        programmed(driver, f"cat >/dev/null; echo {line}")
+        programmed(program, f"cat >/dev/null; echo {line}")
         text = f"lvs: lvs_cases takes only 65,536 bytes of this input, and answers {line!r}\n"
         check(f"{line} of a cut model", judged("long.lvs"), (3, "", text))
-    driver.write_bytes(b"no program")
-    check("no program", judged(), (3, "", f"lvs: cannot run {driver}: Exec format error\n"))
+    program.write_bytes(b"no program")
+    check("no program", judged(), (3, "", f"lvs: cannot run {program}: Exec format error\n"))
 
 
 def main_checks():
+    driver.program()  # built once, before many runs ask for it
     signal.alarm(180)  # a run that waits for ever ends the checks
     with tempfile.TemporaryDirectory() as name:
         folder = pathlib.Path(name).resolve()

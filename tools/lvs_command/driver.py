@@ -79,7 +79,7 @@ def judge(model):
 
 @functools.lru_cache
 def program():
-    """The driver, built where it is missing or older than a file of the crates."""
+    """The driver, built where it is missing or older than code or a proof."""
     if not is_built():
         build()
     return PROGRAM
@@ -90,7 +90,7 @@ def is_built():
         made = PROGRAM.stat().st_mtime
     except OSError:
         return False
-    sources = (path for part in ("src", "specs", "proofs") for path in ROOT.glob(f"crates/*/{part}/**/*"))
+    sources = (path for path in ROOT.glob("crates/**/*") if path.suffix in (".rt", ".antt"))
     return all(path.lstat().st_mtime <= made for path in [ROOT / "crates.txt", *sources])
 
 
