@@ -1,5 +1,4 @@
 """The command line of `lvs`: its subcommands, and what becomes of errors."""
-import os
 import signal
 import sys
 
@@ -48,7 +47,6 @@ def main(words=None):
     except KeyboardInterrupt:
         return 128 + signal.SIGINT
     except OSError as fault:  # of writing: what is read is read with a Failure
-        os.dup2(os.open(os.devnull, os.O_WRONLY), sys.stdout.fileno())  # or Python tries again when it ends
         if isinstance(fault, BrokenPipeError):
             return 128 + signal.SIGPIPE
         say(f"cannot write the answer: {fault.strerror}")
