@@ -617,7 +617,7 @@ def check_builds(folder):
 
 def main_checks():
     driver.program()  # built once, before many runs ask for it
-    signal.alarm(180)  # a run that waits for ever ends the checks
+    signal.alarm(600)  # a run that waits for ever ends the checks
     with tempfile.TemporaryDirectory() as name:
         folder = pathlib.Path(name).resolve()
         for file, data in FILES.items():
