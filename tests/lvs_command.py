@@ -1,0 +1,639 @@
+#!/usr/bin/env python3
+"""Runs tools/lvs as a person would, and compares all that it prints and its exit status with what is written here.
+
+usage: lvs_command.py
+
+Every subcommand, every exit status, every refusal and every error text; the examples in README and in the help texts; and builds, in a copy
+of tools/ with another rt. Models are made with tests/cases/build.py.
+"""
+import concurrent.futures
+import functools
+import json
+import os
+import pathlib
+import pty
+import re
+import shutil
+import signal
+import subprocess
+import sys
+import tempfile
+from typing import NamedTuple
+
+ROOT = pathlib.Path(__file__).resolve().parent.parent
+sys.path[:0] = [str(ROOT / "tests/cases"), str(ROOT / "tools")]
+sys.dont_write_bytecode = True
+import name as names  # noqa: E402
+import uris  # noqa: E402
+from bench import A, B  # noqa: E402
+from build import *  # noqa: E402, F403
+from lvs_command import answers, driver, refusals  # noqa: E402
+
+EXAMPLE = (ROOT / "example/model.lvs").read_bytes()
+REQUESTS = (ROOT / "example/requests.txt").read_text()
+ARTICLE = "/ndn/blog/100001/post/2022/1"
+AUTHOR = "/ndn/blog/author/100001/KEY/1/000001/1"
+ROOT_KEY = "/ndn/blog/KEY/1/self/1"
+ALLOWED = "allowed: packet at node 28, key at node 18\n"
+
+# rule names, symbols, every kind of term, optional elements at several depths, and a node that nothing leads to
+SKIPPED = element(0x80, b"abc")
+NAMED = model(
+    node(0, rule_name("#top"), value_edge(1, component(b"\x03", 54)), pattern_edge(2, 1)),
+    node(1, SKIPPED, parent(0), rule_name("#time"), rule_name("#v"), pattern_edge(3, 2, constraint(SKIPPED, option(value("x")), option(tag(1))))),
+    node(2, parent(0), pattern_edge(4, 3, constraint(), constraint(option(call("$eq", tag(1))), option(call("$eq_type", value("a=b")))))),
+    node(3, parent(1), rule_name("#end"), signer(2), signer(1)),
+    node(4, parent(2), signer(3)),
+    node(5, element(VALUE_EDGE, node_id(6), element(0xFFFE, b""), value("y"))),
+    node(6, parent(5)),
+    patterns=2,
+    behind=symbol(1, "user") + element(SYMBOL, tag(2), element(0x80, b"z"), element(IDENTIFIER, b"part")) + symbol(3, "part") + symbol(1, "again"),
+)
+CYCLE = model(node(0, parent(1), value_edge(1, "a")), node(1, parent(0), value_edge(0, "b")))
+ANY = tree([(1,), (2,), (3,), (4,), (5,), (6,), (7,), ()])  # seven components, each bound
+
+
+def chain(count):
+    return model(*(node(i, *([parent(i - 1)] if i else []), *([value_edge(i + 1, "p")] if i + 1 < count else [])) for i in range(count)))
+
+
+FILES = {
+    "example.lvs": EXAMPLE,
+    "a.lvs": A,
+    "named.lvs": NAMED,
+    "cycle.lvs": CYCLE,
+    "any.lvs": ANY,
+    "longest.lvs": padded(A, 32768),
+    "r1.lvs": padded(A, 32769),
+    "r1-driver.lvs": padded(A, 65536),
+    "r1-above.lvs": padded(A, 65537),
+    "r1-far.lvs": bytes(300000),
+    "r2.lvs": EXAMPLE[:-1],
+    "r3.lvs": EXAMPLE[:5] + b"\x01" + EXAMPLE[6:],
+    "r4.lvs": chain(257),
+    "deep.lvs": chain(1500),
+    "r5.lvs": model(node(0, pattern_edge(0, 0))),
+    "r6.lvs": model(node(0), node(7)),
+    "r7.lvs": model(node(0), start=3),
+    "r8.lvs": model(node(0, value_edge(9, "a"))),
+    "r9.lvs": model(node(0), node(1, signer(4))),
+    "r10.lvs": model(node(0, pattern_edge(1, 1, constraint(option(), option(value("a"), tag(2))))), node(1, parent(0))),
+    "r11.lvs": model(node(0, value_edge(1, "a"), value_edge(2, "b")), node(1, parent(2)), node(2)),
+    "r12.lvs": model(node(0), node(1, pattern_edge(2, 1, constraint(option(call("$no"))))), node(2, parent(1))),
+}
+
+NOT_A_NAME = "malformed: it is not one name element with nothing but components in it"
+REFUSED = {
+    1: "refused 1: the model is longer than 32,768 bytes",
+    2: "refused 2: the model is malformed: its bytes are not the elements of an LVS model, or not in their order",
+    3: "refused 3: the model has another version of the format than 0x00011000",
+    4: "refused 4: the model has more than 256 nodes",
+    5: "refused 5: a tag in the model is 0 or above 128",
+    6: "refused 6 at node 1: this node's NodeId is not its position in the model, counted from 0",
+    7: "refused 7: the model's StartId names no node",
+    8: "refused 8 at node 0: this node has an edge to a node that does not exist",
+    9: "refused 9 at node 1: this node lists a signer that does not exist",
+    10: "refused 10 at node 0: this node has a constraint option that is not exactly one value, tag or function call",
+    11: "refused 11 at node 0: this node has an edge to a node whose Parent is missing or names another node",
+    12: "refused 12 at node 1: this node calls an unknown function, or a known one with a wrong number of arguments",
+    21: "refused 21: the packet name is longer than 1,024 bytes",
+    22: f"refused 22: the packet name is {NOT_A_NAME}",
+    23: "refused 23: the packet name has more than 32 components",
+    24: "refused 24: the key name is longer than 1,024 bytes",
+    25: f"refused 25: the key name is {NOT_A_NAME}",
+    26: "refused 26: the key name has more than 32 components",
+    27: "refused 27: the buffer for the bindings has fewer than 256 words",
+}
+
+
+class Run(NamedTuple):
+    """A run of the command: its words and standard input, and what it must end with and print."""
+
+    words: list
+    status: int
+    out: str = ""
+    err: str = ""
+    given: bytes = b""
+
+
+def judge_runs():
+    yield Run(["judge", "example.lvs"], 0, "accepted: 29 nodes\n")
+    yield Run(["judge", "a.lvs"], 0, "accepted: 1 node\n")
+    yield Run(["judge", "longest.lvs"], 0, "accepted: 1 node\n")
+    yield Run(["judge", "-"], 0, "accepted: 2 nodes\n", given=B)
+    yield Run(["judge", "-"], 2, REFUSED[2] + "\n")
+    yield Run(["judge", "--json", "example.lvs"], 0, '{"answer": "accepted", "nodes": 29}\n')
+    for number in range(1, 13):
+        yield Run(["judge", f"r{number}.lvs"], 2, REFUSED[number] + "\n")
+    for file in ("r1-driver.lvs", "r1-above.lvs", "r1-far.lvs", "/dev/zero"):
+        yield Run(["judge", file], 2, REFUSED[1] + "\n")
+    for number, at in (3, 0), (9, 1):
+        meaning = REFUSED[number].partition(": ")[2]
+        yield Run(["judge", "--json", f"r{number}.lvs"], 2, f'{{"answer": "refused", "number": {number}, "node": {at}, "meaning": "{meaning}"}}\n')
+
+
+def bad_names():
+    """(name, its refusal as a packet's)."""
+    yield "/" + "x" * 1017, 21
+    yield "/" + "x" * 9000, 21  # more than the driver takes
+    yield "0x" + "07" * 5000, 21
+    yield "0x", 22
+    yield "0x0701", 22
+    yield "0x0703080162ff", 22
+    yield "/a" * 33, 23
+
+
+def match_runs():
+    bound = "  tag 2 = 100001\n  tag 3 = 2022\n  tag 4 = 1\n"
+    yield Run(["match", "example.lvs", ARTICLE], 0, "match: node 28, 3 tags bound\n" + bound)
+    yield Run(["match", "-", "ndn:" + ARTICLE + "/"], 0, "match: node 28, 3 tags bound\n" + bound, given=EXAMPLE)
+    yield Run(["match", "example.lvs", "0x" + names.name(ARTICLE).hex().upper()], 0, "match: node 28, 3 tags bound\n" + bound)
+    yield Run(["match", "example.lvs", "/"], 0, "match: node 0, 0 tags bound\n")
+    yield Run(["match", "example.lvs", "/ndn/blog"], 0, "match: node 2, 0 tags bound\n")
+    yield Run(["match", "example.lvs", "/ndn/blog/1000/post/202/1"], 1, "no match\n")
+    yield Run(["match", "named.lvs", "/me/a"], 1, "no match\n")  # of a Constraint without options
+    yield Run(["match", "named.lvs", "/me"], 0, "match: node 2, 1 tag bound\n  user = me\n")
+    yield Run(["match", "named.lvs", "/v=3/x"], 0, "match: node 3 (#end), 1 tag bound\n  part (tag 2) = x\n")
+    yield Run(["match", "named.lvs", "/54=%03/x"], 0, "match: node 3 (#end), 1 tag bound\n  part (tag 2) = x\n")
+    yield Run(["match", "named.lvs", "/v=3"], 0, "match: node 1 (#time, #v), 0 tags bound\n")
+    digest = "sha256digest=" + "0a" * 32
+    parts = ["v=3", "54=%00%03", "...", "....", "%00%2F%C3%A9", digest, "x" * 900]
+    texts = "".join(f"  tag {i} = {part}\n" for i, part in enumerate(parts, 1))
+    yield Run(["match", "any.lvs", "/" + "/".join(parts)], 0, "match: node 7, 7 tags bound\n" + texts)
+    yield Run(["match", "any.lvs", "/9=a/1=%0A/é/a%62/32=.../a/b"], 0, "match: node 7, 7 tags bound\n"
+              "  tag 1 = 9=a\n  tag 2 = 1=%0A\n  tag 3 = %C3%A9\n  tag 4 = ab\n  tag 5 = 32=...\n  tag 6 = a\n  tag 7 = b\n")
+    for text, number in bad_names():
+        yield Run(["match", "example.lvs", text], 2, REFUSED[number] + "\n")
+        yield Run(["match", "r7.lvs", text], 2, REFUSED[7] + "\n")
+    yield Run(["match", "r1-far.lvs", "/"], 2, REFUSED[1] + "\n")
+    yield Run(["match", "--json", "named.lvs", "/v=3/x"], 0, '{"answer": "match", "node": 3, "rules": ["#end"], "bound": 1, "bindings": '
+              '[{"tag": 2, "symbol": "part", "component": "x", "start": 5, "length": 3}]}\n')
+    yield Run(["match", "--json", "example.lvs", "/"], 0, '{"answer": "match", "node": 0, "rules": [], "bound": 0, "bindings": []}\n')
+    yield Run(["match", "--json", "example.lvs", "/a"], 1, '{"answer": "no match"}\n')
+    meaning = REFUSED[23].partition(": ")[2]
+    yield Run(["match", "--json", "example.lvs", "/a" * 33], 2, f'{{"answer": "refused", "number": 23, "node": 0, "meaning": "{meaning}"}}\n')
+
+
+def sign_runs():
+    yield Run(["sign", "example.lvs", ARTICLE, AUTHOR], 0, ALLOWED)
+    yield Run(["sign", "-", ARTICLE, AUTHOR], 0, ALLOWED, given=EXAMPLE)
+    yield Run(["sign", "example.lvs", ARTICLE, ROOT_KEY], 1, "not allowed\n")
+    yield Run(["sign", "named.lvs", "/v=3/x", "/v=3"], 0, "allowed: packet at node 3 (#end), key at node 1 (#time, #v)\n")
+    yield Run(["sign", "named.lvs", "/v=3/x", "/me"], 0, "allowed: packet at node 3 (#end), key at node 2\n")
+    for text, number in bad_names():
+        yield Run(["sign", "example.lvs", text, ROOT_KEY], 2, REFUSED[number] + "\n")
+        yield Run(["sign", "example.lvs", ARTICLE, text], 2, REFUSED[number + 3] + "\n")
+    yield Run(["sign", "example.lvs", "0x", "/" + "x" * 9000], 2, REFUSED[22] + "\n")
+    yield Run(["sign", "r1-far.lvs", "0x", "0x"], 2, REFUSED[1] + "\n")
+    yield Run(["sign", "r11.lvs", "/a", "/b"], 2, REFUSED[11] + "\n")
+    yield Run(["sign", "--json", "named.lvs", "/v=3/x", "/me"], 0, '{"answer": "allowed", "packet_node": 3, "key_node": 2, '
+              '"packet_rules": ["#end"], "key_rules": []}\n')
+    yield Run(["sign", "--json", "example.lvs", ARTICLE, ROOT_KEY], 1, '{"answer": "not allowed"}\n')
+
+
+def pair_line(number, answer, packet, key):
+    return f"{number:>4}  {answer:<44}  {packet}  by  {key}\n"
+
+
+def batch_runs():
+    words = ["sign", "example.lvs", "-"]
+    admin, other = "/ndn/blog/admin/000001/KEY/1/root/1", "/ndn/blog/author/100002/KEY/1/000001/1"
+    yield Run(words, 1, f"""\
+   3  allowed: packet at node 12, key at node 6     {admin}  by  {ROOT_KEY}
+   5  not allowed                                   /ndn/blog/admin/000001/key/1/root/1  by  {ROOT_KEY}
+   7  not allowed                                   /ndn/blog/admin/000002/KEY/1/root/1  by  {admin}
+   9  allowed: packet at node 18, key at node 12    {AUTHOR}  by  {admin}
+  10  not allowed                                   /ndn/blog/author/1000/KEY/1/000001/1  by  {admin}
+  12  allowed: packet at node 24, key at node 12    /ndn/blog/reader/200001/KEY/1/000001/1  by  {admin}
+  14  allowed: packet at node 28, key at node 18    {ARTICLE}  by  {AUTHOR}
+  15  not allowed                                   {ARTICLE}  by  {other}
+  16  not allowed                                   /ndn/blog/100001/post/202/1  by  {AUTHOR}
+  18  not allowed                                   /ndn/blog/200001/post/2022/1  by  /ndn/blog/reader/200001/KEY/1/000001/1
+""", given=REQUESTS.encode())
+    yes, no = f"{ARTICLE} {AUTHOR}\n", f"{ARTICLE}\t{ROOT_KEY}\r\n"
+    yes_line, no_line = pair_line(1, ALLOWED[:-1], ARTICLE, AUTHOR), pair_line(2, "not allowed", ARTICLE, ROOT_KEY)
+    yield Run(words, 0, yes_line, given=yes.encode())
+    yield Run(words, 0, yes_line, given=yes.rstrip().encode())
+    yield Run(words, 1, yes_line + no_line, given=(yes + no).encode())
+    refused = pair_line(3, REFUSED[25], ARTICLE, "0x0701")
+    yield Run(words, 2, yes_line + no_line + refused, given=f"{yes}{no}{ARTICLE} 0x0701".encode())
+    # malformed lines, and the rest is answered
+    given = f"{yes}{no}/a /%\n/a\n/a /b /c # x\n#\n\n0x7 /b\n{ARTICLE} 0x0701\n"
+    percent = "% takes two hexadecimal digits (% itself is %25)"
+    digit = "the last byte takes a second hexadecimal digit"
+    yield Run(words, 3, yes_line + no_line + pair_line(9, REFUSED[25], ARTICLE, "0x0701"), f"""\
+lvs: line 3: key name '/%', character 2: {percent}
+lvs: line 4: 1 word, not a packet name and a key name
+lvs: line 5: 5 words, not a packet name and a key name
+lvs: line 8: packet name '0x7', character 4: {digit}
+""", given.encode())
+    yield Run([*words, "--json"], 3, f"""\
+{{"line": 1, "packet": "{ARTICLE}", "key": "{AUTHOR}", "answer": "allowed", "packet_node": 28, "key_node": 18, "packet_rules": [], "key_rules": []}}
+{{"line": 2, "packet": "{ARTICLE}", "key": "{ROOT_KEY}", "answer": "not allowed"}}
+{{"line": 3, "answer": "error", "error": "key name '/%', character 2: {percent}"}}
+{{"line": 4, "answer": "error", "error": "1 word, not a packet name and a key name"}}
+{{"line": 5, "answer": "error", "error": "5 words, not a packet name and a key name"}}
+{{"line": 8, "answer": "error", "error": "packet name '0x7', character 4: {digit}"}}
+{{"line": 9, "packet": "{ARTICLE}", "key": "0x0701", "answer": "refused", "number": 25, "node": 0, "meaning": "{REFUSED[25].partition(': ')[2]}"}}
+""", given=given.encode())
+    yield Run(words, 3, "", "lvs: line 1: 1 word, not a packet name and a key name\n", given=b"/a\n")
+    for nothing in (b"", b"\n  \n", b"# no pair\n"):
+        yield Run(words, 3, "", "lvs: standard input has no pair of names\n", given=nothing)
+    yield Run(["sign", "r11.lvs", "-"], 2, REFUSED[11] + "\n", given=yes.encode())
+    yield Run(["sign", "r11.lvs", "-"], 2, REFUSED[11] + "\n")
+    # more than one run of the driver
+    lines = "".join(pair_line(i, "not allowed", f"/{i}", "/b") for i in range(1, 4502))
+    yield Run(words, 1, lines, given="".join(f"/{i} /b\n" for i in range(1, 4502)).encode())
+    lines = "".join(pair_line(i, "not allowed", f"/{i}", "/b") for i in range(1, 601))
+    yield Run(["sign", "longest.lvs", "-"], 1, lines, given="".join(f"/{i} /b\n" for i in range(1, 601)).encode())
+    # what a terminal would take as a command, and bytes that are not UTF-8
+    yield Run(["sign", "any.lvs", "-"], 1, pair_line(1, "not allowed", "/%1B[2J%FF/é", "/a"), given=b"/\x1b[2J\xff/\xc3\xa9 /a")
+
+
+def tree_runs():
+    yield Run(["tree", "example.lvs"], 0, """\
+accepted: 29 nodes
+start at node 0, 4 named patterns
+node 0 (start)
+  "ndn" -> node 1
+    "blog" -> node 2
+      "KEY" -> node 3
+        tag 5 -> node 4
+          tag 6 -> node 5
+            tag 7 -> node 6
+      tag 8 & {"admin"} -> node 7
+        tag 1 -> node 8
+          "KEY" -> node 9
+            tag 9 -> node 10
+              tag 10 -> node 11
+                tag 11 -> node 12, signed by node 6
+      tag 12 & {"author"} -> node 13
+        tag 2 & {$isValidID()} -> node 14
+          "KEY" -> node 15
+            tag 13 -> node 16
+              tag 14 -> node 17
+                tag 15 -> node 18, signed by node 12
+      tag 16 & {"reader" | "author"} -> node 19
+        tag 2 & {$isValidID()} -> node 20
+          "KEY" -> node 21
+            tag 17 -> node 22
+              tag 18 -> node 23
+                tag 19 -> node 24, signed by node 12
+      tag 2 -> node 25
+        "post" -> node 26
+          tag 3 & {$isValidYear()} -> node 27
+            tag 4 -> node 28, signed by node 12, node 18
+""")
+    yield Run(["tree", "named.lvs"], 0, """\
+accepted: 7 nodes
+start at node 0, 2 named patterns
+symbols: tag 1 = user, tag 2 = part, tag 3 = part, tag 1 = again
+optional element 0x80, 1 byte, in the TagSymbol
+node 0 (#top, start)
+  "v=3" -> node 1 (#time, #v)
+      optional element 0x80, 3 bytes, in the Node
+    part (tag 2) & {"x" | user} -> node 3 (#end), signed by node 2, node 1 (#time, #v)
+        optional element 0x80, 3 bytes, in the Constraint
+  user -> node 2
+    part (tag 3) & {} & {$eq(user) | $eq_type("a%3Db")} -> node 4, signed by node 3 (#end)
+not reachable from the start:
+node 5
+  "y" -> node 6
+      optional element 0xFFFE, 0 bytes, in the ValueEdge
+""")
+    yield Run(["tree", "cycle.lvs"], 0, """\
+accepted: 2 nodes
+start at node 0, 0 named patterns
+node 0 (start, parent 1)
+  "a" -> node 1
+    "b" -> node 0 (above)
+""")
+    yield Run(["tree", "-"], 0, "accepted: 1 node\nstart at node 0, 0 named patterns\nnode 0 (start)\n", given=A)
+    skipping = SKIPPED + A
+    yield Run(["tree", "-"], 0, """\
+accepted: 1 node
+start at node 0, 0 named patterns
+optional element 0x80, 3 bytes, in the model
+node 0 (start)
+""", given=skipping)
+    for number in (1, 2, 3):
+        yield Run(["tree", f"r{number}.lvs"], 2, REFUSED[number] + "\n")
+    yield Run(["tree", "--json", "r3.lvs"], 2, f'{{"answer": "refused", "number": 3, "node": 0, "meaning": "{REFUSED[3].partition(": ")[2]}"}}\n')
+    for number, rest in {
+        5: '1 node, start at node 0, 0 named patterns\nnode 0 (start)\n  tag 0 -> node 0 (above)\n',
+        6: "2 nodes, start at node 0, 0 named patterns\nnode 0 (start)\nnot reachable from the start:\nnode 1 (NodeId 7)  <- refused 6\n",
+        7: "1 node, start at node 3 (no such node), 0 named patterns\nnot reachable from the start:\nnode 0\n",
+        8: '1 node, start at node 0, 0 named patterns\nnode 0 (start)  <- refused 8\n  "a" -> node 9 (no such node)\n',
+        9: "2 nodes, start at node 0, 0 named patterns\nnode 0 (start)\nnot reachable from the start:\n"
+           "node 1, signed by node 4 (no such node)  <- refused 9\n",
+        10: '2 nodes, start at node 0, 0 named patterns\nnode 0 (start)  <- refused 10\n  tag 1 & {() | ("a" tag 2)} -> node 1\n',
+        11: '3 nodes, start at node 0, 0 named patterns\nnode 0 (start)  <- refused 11\n  "a" -> node 1 (parent 2)\n  "b" -> node 2 (no parent)\n',
+        12: "3 nodes, start at node 0, 0 named patterns\nnode 0 (start)\nnot reachable from the start:\n"
+            "node 1  <- refused 12\n  tag 1 & {$no()} -> node 2\n",
+    }.items():
+        yield Run(["tree", f"r{number}.lvs"], 2, f"{REFUSED[number]}\n{rest}")
+    lines = "".join("  " * i + f'"p" -> node {i}\n' for i in range(1, 1500))
+    yield Run(["tree", "deep.lvs"], 2, f"{REFUSED[4]}\n1500 nodes, start at node 0, 0 named patterns\nnode 0 (start)\n{lines}")
+    yield Run(["tree", "--json", "named.lvs"], 0, "".join(json.dumps(of) + "\n" for of in named_objects()))
+
+
+def named_objects():
+    """named.lvs, as `lvs tree --json` prints it."""
+    abc = {"type": 128, "bytes": 3}
+
+    def shown(i, up, rules, edges=(), signers=(), optional=()):
+        return {"node": i, "node_id": i, "parent": up, "rules": rules, "edges": edges, "signers": signers, "optional": optional}
+
+    yield {"answer": "accepted", "nodes": 7}
+    symbols = [{"tag": tag, "symbol": text} for tag, text in ((1, "user"), (2, "part"), (3, "part"), (1, "again"))]
+    yield {"start": 0, "named_patterns": 2, "symbols": symbols, "optional": [{"in": "TagSymbol", "type": 128, "bytes": 1}]}
+    yield shown(0, None, ["#top"], [{"to": 1, "value": "v=3", "optional": []}, {"to": 2, "tag": 1, "constraints": [], "optional": []}])
+    options = [[{"value": "x"}], [{"tag": 1}]]
+    edge = {"to": 3, "tag": 2, "constraints": [options], "optional": [{"in": "Constraint", **abc}]}
+    yield shown(1, 0, ["#time", "#v"], [edge], [], [{"in": "Node", **abc}])
+    calls = [[{"function": "$eq", "arguments": [{"tag": 1}]}], [{"function": "$eq_type", "arguments": [{"value": "a%3Db"}]}]]
+    yield shown(2, 0, [], [{"to": 4, "tag": 3, "constraints": [[], calls], "optional": []}])
+    yield shown(3, 1, ["#end"], [], [2, 1])
+    yield shown(4, 2, [], [], [3])
+    yield shown(5, None, [], [{"to": 6, "value": "y", "optional": [{"in": "ValueEdge", "type": 0xFFFE, "bytes": 0}]}])
+    yield shown(6, 5, [])
+
+
+def error_runs():
+    see, sign_see = "(see lvs --help)", "(see lvs sign --help)"
+    yield Run([], 3, "", f"lvs: the following arguments are required: COMMAND {see}\n")
+    yield Run(["judge"], 3, "", "lvs judge: the following arguments are required: MODEL (see lvs judge --help)\n")
+    yield Run(["match", "a.lvs"], 3, "", "lvs match: the following arguments are required: NAME (see lvs match --help)\n")
+    yield Run(["sign", "a.lvs"], 3, "", f"lvs sign: the following arguments are required: PACKET {sign_see}\n")
+    yield Run(["sign", "a.lvs", "/a"], 3, "", f"lvs sign: the following arguments are required: KEY {sign_see}\n")
+    yield Run(["sign", "a.lvs", "-", "/a"], 3, "", f"lvs sign: - takes pairs from standard input, so KEY cannot be given {sign_see}\n")
+    yield Run(["sign", "-", "-"], 3, "", f"lvs sign: standard input has either the model or the pairs {sign_see}\n")
+    yield Run(["tree"], 3, "", "lvs tree: the following arguments are required: MODEL (see lvs tree --help)\n")
+    yield Run(["judge", "a.lvs", "b.lvs"], 3, "", f"lvs: unrecognized arguments: b.lvs {see}\n")
+    yield Run(["judge", "--jso", "a.lvs"], 3, "", f"lvs: unrecognized arguments: --jso {see}\n")
+    for words in (["judge"], ["match", "/"], ["sign", "/", "/"], ["sign", "-"], ["tree"]):
+        for file, why in ("none.lvs", "No such file or directory"), (".", "Is a directory"), ("a.lvs/b", "Not a directory"):
+            yield Run([words[0], file, *words[1:]], 3, "", f"lvs: cannot read the model {file!r}: {why}\n")
+    types = "1 to 65535, or sha256digest, params-sha256, seg, off, v, t, seq (= in a value is %3D)"
+    empty = "a component of no bytes is written ... (and . and .. are none)"
+    percent = "% takes two hexadecimal digits (% itself is %25)"
+    for uri, at, why in (
+        ("", 1, "a name begins with /"),
+        ("ndn", 1, "a name begins with /"),
+        ("ndn:a", 5, "a name begins with /"),
+        ("/a/%zz", 4, percent),
+        ("ndn:/ab%4", 8, percent),
+        ("/8=a%", 5, percent),
+        ("/%25%", 5, percent),
+        ("//a", 2, empty),
+        ("/a//", 4, empty),
+        ("/a/./b", 4, empty),
+        ("/a/8=..", 6, empty),
+        ("/a/x=b", 4, f"'x' is no component type: {types}"),
+        ("/0=b", 2, f"'0' is no component type: {types}"),
+        ("/65536=b", 2, f"'65536' is no component type: {types}"),
+        ("/=b", 2, f"'' is no component type: {types}"),
+        ("/v=x", 4, "v= takes a number below 2^64"),
+        ("/a/seg=18446744073709551616", 8, "seg= takes a number below 2^64"),
+        ("/sha256digest=0a", 15, "sha256digest= takes 64 hexadecimal digits"),
+        ("0x0g", 4, "not a hexadecimal digit"),
+        ("0x07 ", 5, "not a hexadecimal digit"),
+        ("0x070", 6, "the last byte takes a second hexadecimal digit"),
+    ):
+        yield Run(["match", "a.lvs", uri], 3, "", f"lvs: name {uri!r}, character {at}: {why}\n")
+    yield Run(["sign", "a.lvs", "a", "/"], 3, "", "lvs: packet name 'a', character 1: a name begins with /\n")
+    yield Run(["sign", "a.lvs", "/", "a"], 3, "", "lvs: key name 'a', character 1: a name begins with /\n")
+
+
+# how runs are made and compared
+
+
+COMMAND = [sys.executable, "-S", str(ROOT / "tools/lvs")]  # -S: no module from outside of the standard library
+counts = {"checks": 0, "wrong": 0}
+
+
+def check(what, found, expected):
+    counts["checks"] += 1
+    if found != expected:
+        counts["wrong"] += 1
+        print(f"{what}:\n  {found!r}\n  is not\n  {expected!r}"[:2000])
+
+
+def run(words, folder, given=b"", command=COMMAND, **how):
+    ran = subprocess.run([*command, *words], cwd=folder, input=given, stdout=subprocess.PIPE, stderr=subprocess.PIPE, timeout=120, **how)
+    return ran.returncode, ran.stdout.decode(), ran.stderr.decode()
+
+
+def check_runs(folder):
+    runs = [*judge_runs(), *match_runs(), *sign_runs(), *batch_runs(), *tree_runs(), *error_runs()]
+    with concurrent.futures.ThreadPoolExecutor(os.cpu_count()) as pool:
+        found = pool.map(lambda one: run(one.words, folder, one.given), runs)
+        for one, ended in zip(runs, found):
+            check(" ".join(["lvs", *one.words])[:200], ended, (one.status, one.out, one.err))
+    status, out, err = run(["guess"], folder)  # Python's versions list the choices in different ways
+    check("lvs guess", (status, out, err.startswith("lvs: argument COMMAND: invalid choice: 'guess' (choose from")), (3, "", True))
+
+
+def check_table():
+    check("numbers with a meaning", list(refusals.REFUSALS), list(REFUSED))
+    for number, words in REFUSED.items():
+        node = re.match(r"refused \d+ at node (\d+)", words)
+        check(f"refusal {number}", answers.Refused(number, int(node[1]) if node else 0).words(), words)
+    unknown = "refused 99: tools/lvs_command/refusals.py does not say what this number means"
+    check("a number without a meaning", answers.Refused(99, 1).words(), unknown)
+
+
+def check_uris():
+    """Components are written so that they are read back, whatever their bytes."""
+    values = [b"", b".", b"..", b"...", b"....", b"a.b", b"\x00", b"\xff" * 8, b"\x00\x01", bytes(9), bytes(range(256)), bytes(32), b"=", b"%41"]
+    components = [element(typ, value) for typ in (1, 2, 3, 8, 32, 50, 52, 54, 56, 58, 252, 253, 65535) for value in values]
+    for data in components:
+        check(f"the URI of {data.hex()}", names.component(names.component_uri(data)), data)
+    for uri, data in uris.NAMES:
+        ((_, inside),) = names.elements(bytes.fromhex(data))
+        texts = [names.component_uri(element(*part)) for part in names.elements(inside)]
+        check(f"{uri}, written again", names.name("/" + "/".join(texts)), bytes.fromhex(data))
+
+
+# streams
+
+
+def check_streams(folder):
+    with subprocess.Popen([*COMMAND, "tree", "deep.lvs"], cwd=folder, stdout=subprocess.PIPE, stderr=subprocess.PIPE) as running:
+        running.stdout.readline()
+        running.stdout.close()
+        check("a closed pipe", (running.wait(60), running.stderr.read()), (128 + signal.SIGPIPE, b""))
+    shell = "exec " + " ".join(COMMAND)
+    for words, status, out, err in (
+        ("judge a.lvs >/dev/full", 3, "", "lvs: cannot write the answer: No space left on device\n"),
+        ("judge r2.lvs >&-", 2, "", ""),
+        ("judge none 2>/dev/full", 3, "", ""),
+        ("judge none 2>&-", 3, "", ""),
+        ("judge - <&-", 3, "", "lvs: standard input is closed\n"),
+        ("sign a.lvs - <&-", 3, "", "lvs: standard input is closed\n"),
+        ("judge - 0>/dev/null", 3, "", "lvs: cannot read the model '-': Bad file descriptor\n"),
+        ("sign a.lvs - 0>/dev/null", 3, "", "lvs: cannot read standard input: Bad file descriptor\n"),
+    ):
+        check(words, run([f"{shell} {words}"], folder, command=["bash", "-c"]), (status, out, err))
+    pipes = {"stdin": subprocess.PIPE, "stdout": subprocess.PIPE, "stderr": subprocess.PIPE}
+    heard = functools.partial(signal.signal, signal.SIGINT, signal.SIG_DFL)  # what runs in the background ignores it, and hands that on
+    with subprocess.Popen([*COMMAND, "sign", "a.lvs", "-"], cwd=folder, preexec_fn=heard, **pipes) as running:
+        running.stdin.write(b"/a /b\n" * 2000)
+        running.stdin.flush()
+        line = running.stdout.readline()  # it waits for more pairs now
+        running.send_signal(signal.SIGINT)
+        running.stdout.read()
+        ended = line.decode(), running.wait(60), running.stderr.read()
+        check("an interrupt", ended, (pair_line(1, "not allowed", "/a", "/b"), 128 + signal.SIGINT, b""))
+
+
+def check_terminal(folder):
+    """Progress is shown on a terminal, and not of few pairs; pairs that are typed are answered one by one."""
+    for count, expected in (1999, b""), (4001, b"lvs: 2000 pairs answered\r\x1b[Klvs: 4000 pairs answered\r\x1b[Klvs: 4001 pairs answered\r\x1b[K"):
+        ours, theirs = pty.openpty()
+        subprocess.run([*COMMAND, "sign", "a.lvs", "-"], cwd=folder, input=b"/a /b\n" * count, stdout=subprocess.DEVNULL, stderr=theirs)
+        os.write(theirs, b".")
+        shown = b""
+        while not shown.endswith(b"."):
+            shown += os.read(ours, 10000)
+        check(f"progress of {count} pairs", shown[:-1], expected)
+    ours, theirs = pty.openpty()
+    with subprocess.Popen([*COMMAND, "sign", "a.lvs", "-"], cwd=folder, stdin=theirs, stdout=subprocess.PIPE) as running:
+        for i in (1, 2):
+            os.write(ours, b"/a /b\n")
+            check(f"typed pair {i}", running.stdout.readline().decode(), pair_line(i, "not allowed", "/a", "/b"))
+        os.write(ours, b"\x04")
+        check("the end of what is typed", running.wait(60), 1)
+
+
+def check_fault():
+    """A fault of the command itself is no answer."""
+    program = "import sys; sys.path.insert(0, sys.argv[1]); from lvs_command import judge, main; judge.driver.judge = None; "
+    words = ["-c", program + "sys.exit(main.main(['judge', '/dev/null']))", str(ROOT / "tools")]
+    status, out, err = run(words, ROOT, command=[sys.executable])
+    check("a fault of the command", (status, out, err.splitlines()[-1]), (3, "", "TypeError: 'NoneType' object is not callable"))
+
+
+# examples
+
+
+def examples(text):
+    """(command, what it prints) of each `$` line."""
+    for found in re.finditer(r"^(?P<indent> *)\$ (?P<command>.*)\n(?P<out>(?:(?P=indent)(?!\$ |```).+\n)*)", text, re.M):
+        lines = found["out"].splitlines()
+        yield found["command"], "".join(line[len(found["indent"]) :] + "\n" for line in lines)
+
+
+def check_examples():
+    help_texts = {"lvs --help": ""}
+    for command in ("judge", "match", "sign", "tree"):
+        help_texts[f"lvs {command} --help"] = "example:"
+    place = {**os.environ, "PATH": f"{ROOT / 'tools'}:{os.environ['PATH']}"}
+    readme = (ROOT / "README.md").read_text().partition("## Run it")[2].partition("\n## ")[0]
+    shown = [("README", one) for one in examples(readme) if "lvs" in one[0]]
+    check("README begins with an example", bool(shown) and shown[0][1][0].startswith("tools/lvs "), True)
+    for words, part in help_texts.items():
+        status, out, err = run(words.split()[1:], ROOT)
+        check(words, (status, out.startswith(f"usage: {words.removesuffix(' --help')} "), part in out, err), (0, True, True, ""))
+        check(f"the width of {words}", [line for line in out.splitlines() if len(line) > 95 and not line.startswith("  ")], [])
+        shown += [(words, one) for one in examples(out)]
+    check("how many examples the help has", len(shown) >= 9, True)
+    for where, (command, expected) in shown:
+        ran = subprocess.run(["bash", "-c", command], cwd=ROOT, env=place, stdout=subprocess.PIPE, stderr=subprocess.PIPE)
+        check(f"{where}: {command}", (ran.stdout.decode(), ran.stderr), (expected, b""))
+
+
+# building, in a copy of tools/ with another rt
+
+
+def copied(folder):
+    """A copy of the command that finds rt in PATH only, and has a crate."""
+    shutil.copytree(ROOT / "tools", folder / "tools")
+    file = folder / "tools/lvs_command/driver.py"
+    text = file.read_text()
+    assert '"/opt/rattle/bin"' in text
+    file.write_text(text.replace('"/opt/rattle/bin"', '"/none"'))
+    source = folder / "crates/lvs/src/lib.rt"
+    source.parent.mkdir(parents=True)
+    for path in (source, folder / "crates.txt"):
+        path.touch()
+    for path in (source, source.parent, folder / "crates.txt"):
+        os.utime(path, (1, 1))
+    return source
+
+
+def programmed(file, text):
+    file.parent.mkdir(parents=True, exist_ok=True)
+    file.write_text(f"#!/bin/sh\n{text}\n")
+    file.chmod(0o755)
+
+
+BUILDING = "lvs: building the checker with `rt check lvs_cases`; the first time this proves ten crates, in about four minutes\n"
+
+
+def check_builds(folder):
+    source = copied(folder)
+    bin_folder, program = folder / "bin", folder / "target/bin/lvs_cases"
+    (folder / "b.lvs").write_bytes(B)
+    (folder / "long.lvs").write_bytes(bytes(65537))
+
+    def judged(file="b.lvs"):
+        place = {"PATH": f"{bin_folder}:/usr/bin:/bin"}
+        return run(["judge", file], folder, command=[sys.executable, "-S", str(folder / "tools/lvs")], env=place)
+
+    if not any(os.path.exists(f"{place}/rt") for place in ("/usr/bin", "/bin")):
+        text = "lvs: the checker has to be built with `rt` of the Rattle toolchain, which is not in PATH\n"
+        check("no rt", judged(), (3, "", text))
+    (bin_folder / "rt").parent.mkdir()
+    (bin_folder / "rt").write_text("no program")
+    (bin_folder / "rt").chmod(0o755)
+    check("an rt that is no program", judged(), (3, "", f"{BUILDING}lvs: cannot run {bin_folder / 'rt'}: Exec format error\n"))
+    programmed(bin_folder / "rt", "echo 'rt: tlv proved (1 s)'; echo 'no proof' >&2; exit 1")
+    failed = "lvs: the build failed: `rt check lvs_cases` ended with status 1. Its last lines:\n  rt: tlv proved (1 s)\n  no proof\n"
+    check("a failed build", judged(), (3, "", f"{BUILDING}rt: tlv proved (1 s)\n{failed}"))
+    programmed(bin_folder / "rt", "exit 0")
+    text = f"lvs: rt takes {program} for built, but it is not there: remove {folder / 'target'} and try again\n"
+    check("a build without a program", judged(), (3, "", BUILDING + text))
+    programmed(bin_folder / "rt", f"echo \"rt: $* in $PWD\"; mkdir -p target/bin; cp '{ROOT}/target/bin/lvs_cases' target/bin/; touch -d @9 target/bin/*")
+    built = f"{BUILDING}rt: check lvs_cases in {folder}\n"
+    check("the first use", judged(), (0, "accepted: 2 nodes\n", built))
+    check("the second use", judged(), (0, "accepted: 2 nodes\n", ""))
+    os.utime(source, (program.stat().st_mtime + 0.01,) * 2)
+    check("a crate has changed", judged(), (0, "accepted: 2 nodes\n", built))
+    check("the use after that", judged(), (0, "accepted: 2 nodes\n", ""))
+    os.utime(source, (1, 1))
+    # drivers that do not answer as the command expects
+    programmed(program, "cat >/dev/null; echo broken")
+    check("a broken case", judged(), (3, "", "lvs: lvs_cases printed 'broken', which is no answer\n"))
+    programmed(program, "cat >/dev/null; exit 4")
+    check("no answer", judged(), (3, "", "lvs: lvs_cases ended with status 4 and 0 lines for 1 case\n"))
+    for line in ("accepted 1", "refused 2 0"):
+        programmed(program, f"cat >/dev/null; echo {line}")
+        text = f"lvs: lvs_cases takes only 65,536 bytes of this input, and answers {line!r}\n"
+        check(f"{line} of a cut model", judged("long.lvs"), (3, "", text))
+    program.write_bytes(b"no program")
+    check("no program", judged(), (3, "", f"lvs: cannot run {program}: Exec format error\n"))
+
+
+def main_checks():
+    driver.program()  # built once, before many runs ask for it
+    signal.alarm(600)  # a run that waits for ever ends the checks
+    with tempfile.TemporaryDirectory() as name:
+        folder = pathlib.Path(name).resolve()
+        for file, data in FILES.items():
+            (folder / file).write_bytes(data)
+        check_runs(folder)
+        check_streams(folder)
+        check_terminal(folder)
+    with tempfile.TemporaryDirectory() as name:
+        check_builds(pathlib.Path(name).resolve())
+    check_table()
+    check_uris()
+    check_fault()
+    check_examples()
+    print(f"lvs: {counts['checks']} checks, {counts['wrong']} wrong")
+    return 1 if counts["wrong"] else 0
+
+
+if __name__ == "__main__":
+    sys.exit(main_checks())

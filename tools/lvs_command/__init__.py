@@ -1,0 +1,7 @@
+"""The command `lvs`.
+
+main.py has the command line, and judge.py, match.py, sign.py and tree.py a subcommand each: `add(commands)` makes its parser, and
+`run(args)` answers its exit status. parser.py has what they share. They ask driver.py, which builds and runs the proved lvs_cases;
+answers.py puts its lines into words and objects, and refusals.py has a sentence for each refusal number. model.py reads a model for
+display only.
+"""

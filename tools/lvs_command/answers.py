@@ -1,0 +1,97 @@
+"""The answers of the three calls, read from the driver's lines: each as words, as an object for --json, and as an exit status."""
+from collections import namedtuple
+
+from name import component_uri
+
+from .errors import NO, REFUSED, YES, Failure
+from .refusals import refusal
+
+WORDS = 256  # of the binding buffer: two for each Tag
+
+
+def counted(n, what):
+    return f"{n} {what}{'' if n == 1 else 's'}"
+
+
+class Answer:
+    """What the call answered, and its numbers. `labels` has the names that the model gives its nodes and tags (model.py)."""
+
+    answer = status = None
+
+    def words(self, labels=None):
+        return self.answer
+
+    def object(self, labels=None):
+        return {"answer": self.answer, **self._asdict()}
+
+
+class Refused(Answer, namedtuple("Numbers", "number node")):
+    answer, status = "refused", REFUSED
+
+    def words(self, labels=None):
+        row = refusal(self.number)
+        return f"refused {self.number}{f' at {row.at} {self.node}' if row.at else ''}: {row.meaning}"
+
+    def object(self, labels=None):
+        return {**super().object(), "meaning": refusal(self.number).meaning}
+
+
+class Accepted(Answer, namedtuple("Numbers", "nodes")):
+    answer, status = "accepted", YES
+
+    def words(self, labels=None):
+        return f"accepted: {counted(self.nodes, 'node')}"
+
+
+class Match(Answer, namedtuple("Numbers", "node bound buffer")):
+    answer, status = "match", YES
+
+    def words(self, labels):
+        return f"match: {labels.node(self.node)}, {counted(self.bound, 'tag')} bound"
+
+    def object(self, labels):
+        return {"answer": self.answer, "node": self.node, "rules": labels.rules(self.node), "bound": self.bound}
+
+    def bindings(self, name):
+        """(Tag, start, length, component) of each bound Tag; the component as in a URI."""
+        for tag, (start, length) in enumerate(zip(self.buffer[::2], self.buffer[1::2]), 1):
+            if length:
+                yield tag, start, length, component_uri(name[start : start + length])
+
+
+class NoMatch(Answer, namedtuple("Numbers", "")):
+    answer, status = "no match", NO
+
+
+class Allowed(Answer, namedtuple("Numbers", "packet_node key_node")):
+    answer, status = "allowed", YES
+
+    def words(self, labels):
+        return f"allowed: packet at {labels.node(self.packet_node)}, key at {labels.node(self.key_node)}"
+
+    def object(self, labels):
+        rules = {"packet_rules": labels.rules(self.packet_node), "key_rules": labels.rules(self.key_node)}
+        return {**super().object(), **rules}
+
+
+class NotAllowed(Answer, namedtuple("Numbers", "")):
+    answer, status = "not allowed", NO
+
+
+def read_answer(line):
+    """The answer in a line of lvs_cases. A match call's line goes on with all words of the buffer."""
+    words = line.split()
+    numbers = [int(word) for word in words if word.isdigit()]
+    if words[:1] == ["accepted"] and len(numbers) == 1:
+        return Accepted(*numbers)
+    if words[:1] == ["refused"] and len(numbers) >= 2:
+        return Refused(*numbers[:2])
+    if words[:1] == ["match"] and len(numbers) == 2 + WORDS:
+        return Match(*numbers[:2], tuple(numbers[2:]))
+    if words[:2] == ["no", "match"]:
+        return NoMatch()
+    if words[:1] == ["allowed"] and len(numbers) == 2:
+        return Allowed(*numbers)
+    if words == ["not", "allowed"]:
+        return NotAllowed()
+    raise Failure(f"lvs_cases printed {line[:60]!r}, which is no answer")

@@ -1,0 +1,71 @@
+"""What the subcommands share: the parser, how models and names are read, and how answers are printed."""
+import argparse
+import contextlib
+import json
+import sys
+
+from name import Malformed, name_or_bytes
+
+from .driver import MODEL
+from .errors import ERROR, Failure, say
+
+
+class Parser(argparse.ArgumentParser):
+    def __init__(self, **words):
+        super().__init__(formatter_class=argparse.RawDescriptionHelpFormatter, allow_abbrev=False, **words)
+
+    def error(self, message):
+        say(f"{message} (see {self.prog} --help)", self.prog)
+        sys.exit(ERROR)
+
+
+def add_command(commands, name, run, summary, details):
+    """The parser of a subcommand that takes a model."""
+    command = commands.add_parser(name, help=summary, description=summary, epilog=details)
+    command.set_defaults(run=run)
+    command.add_argument("--json", action="store_true", help="print one JSON object a line")
+    command.add_argument("model", metavar="MODEL", help="the model's file, or - for standard input")
+    return command
+
+
+def standard_input():
+    if sys.stdin is None:
+        raise Failure("standard input is closed")
+    return sys.stdin
+
+
+def input_lines():
+    try:
+        yield from standard_input()
+    except OSError as fault:
+        raise Failure(f"cannot read standard input: {fault.strerror}") from None
+
+
+def model_bytes(path):
+    """The bytes of a model; of one that is longer than the driver takes, one byte more than that."""
+    try:
+        with open(path, "rb") if path != "-" else contextlib.nullcontext(standard_input().buffer) as file:
+            return file.read(MODEL.longest + 1)
+    except OSError as fault:
+        raise Failure(f"cannot read the model {path!r}: {fault.strerror}") from None
+
+
+def name_bytes(text, what):
+    """The bytes of a name; `what` says in the error which name it is."""
+    try:
+        return name_or_bytes(text)
+    except Malformed as fault:
+        raise Failure(f"{what} {fault}") from None
+
+
+def show(args, answer, labels=None, more=None, lines=()):
+    """Prints an answer: in words with `lines` below, or as an object with `more` in it. Answers its exit status."""
+    if args.json:
+        print_object({**answer.object(labels), **(more or {})})
+    else:
+        print("\n".join([answer.words(labels), *lines]))
+    return answer.status
+
+
+def print_object(of):
+    print(json.dumps(of))

@@ -1,0 +1,36 @@
+"""What each refusal number means, in a sentence. A number more is a row more."""
+from typing import NamedTuple
+
+
+class Refusal(NamedTuple):
+    meaning: str
+    at: str = ""  # what the second number counts: the node at fault. Where it is empty, that number is 0 and says nothing
+
+
+REFUSALS = {
+    1: Refusal("the model is longer than 32,768 bytes"),
+    2: Refusal("the model is malformed: its bytes are not the elements of an LVS model, or not in their order"),
+    3: Refusal("the model has another version of the format than 0x00011000"),
+    4: Refusal("the model has more than 256 nodes"),
+    5: Refusal("a tag in the model is 0 or above 128"),
+    6: Refusal("this node's NodeId is not its position in the model, counted from 0", "node"),
+    7: Refusal("the model's StartId names no node"),
+    8: Refusal("this node has an edge to a node that does not exist", "node"),
+    9: Refusal("this node lists a signer that does not exist", "node"),
+    10: Refusal("this node has a constraint option that is not exactly one value, tag or function call", "node"),
+    11: Refusal("this node has an edge to a node whose Parent is missing or names another node", "node"),
+    12: Refusal("this node calls an unknown function, or a known one with a wrong number of arguments", "node"),
+    21: Refusal("the packet name is longer than 1,024 bytes"),
+    22: Refusal("the packet name is malformed: it is not one name element with nothing but components in it"),
+    23: Refusal("the packet name has more than 32 components"),
+    24: Refusal("the key name is longer than 1,024 bytes"),
+    25: Refusal("the key name is malformed: it is not one name element with nothing but components in it"),
+    26: Refusal("the key name has more than 32 components"),
+    27: Refusal("the buffer for the bindings has fewer than 256 words"),
+}
+
+LAST_UNREADABLE = 3  # a model refused with this number or a lower one can't be read as nodes and edges
+
+
+def refusal(number):
+    return REFUSALS.get(number, Refusal("tools/lvs_command/refusals.py does not say what this number means"))

@@ -1,0 +1,141 @@
+"""lvs sign: may a key sign a packet? Of one pair of names, or of many from standard input."""
+import itertools
+import sys
+from urllib.parse import quote
+
+from name import pair, word_lines
+
+from . import driver
+from .answers import Refused, counted
+from .errors import ERROR, YES, Failure, say
+from .model import Labels
+from .parser import add_command, input_lines, model_bytes, name_bytes, print_object, show, standard_input
+
+DETAILS = """\
+example:
+  $ lvs sign example/model.lvs /ndn/blog/100001/post/2022/1 /ndn/blog/author/100001/KEY/1/000001/1
+  allowed: packet at node 28, key at node 18
+
+With - in place of the names, each line of standard input has a packet name and a key name,
+with blanks between; empty lines and those that begin with # are skipped. A pair's answer is
+one line: the line number, the answer, the names. A malformed line gets an error on standard
+error (with --json, an object), and the rest is still answered. Of a refused model there is
+the refusal only.
+
+  $ lvs sign example/model.lvs - <example/requests.txt | head -n 2
+     3  allowed: packet at node 12, key at node 6     /ndn/blog/admin/000001/KEY/1/root/1  by  /ndn/blog/KEY/1/self/1
+     5  not allowed                                   /ndn/blog/admin/000001/key/1/root/1  by  /ndn/blog/KEY/1/self/1
+
+The exit status is the highest of any line's: 3 malformed, 2 refused, 1 not allowed, else 0.
+No pair at all is 3 too, so that an empty list is not taken for one that is allowed.
+"""
+
+RUN_PAIRS, RUN_BYTES = 2000, 1 << 23  # for one run of the driver: pairs, and bytes of models (each case has the model)
+
+
+def add(commands):
+    command = add_command(commands, "sign", run, "Say whether a key may sign a packet, by their names.", DETAILS)
+    command.add_argument("packet", metavar="PACKET", help="the packet's name, or - for pairs of names from standard input")
+    command.add_argument("key", metavar="KEY", nargs="?", help="the key's name, where the packet's is given")
+    command.set_defaults(parser=command)
+
+
+def run(args):
+    if args.packet == "-":
+        if args.key is not None:
+            args.parser.error("- takes pairs from standard input, so KEY cannot be given")
+        if args.model == "-":
+            args.parser.error("standard input has either the model or the pairs")
+        return sign_lines(args)
+    if args.key is None:
+        args.parser.error("the following arguments are required: KEY")
+    model = model_bytes(args.model)
+    packet, key = name_bytes(args.packet, "packet name"), name_bytes(args.key, "key name")
+    return show(args, driver.ask([driver.sign_case(model, packet, key)])[0], Labels(model))
+
+
+class Line:
+    """A line of the input that is to be answered: its number and words, and its case or what is wrong with it."""
+
+    def __init__(self, number, words, model):
+        self.number, self.words = number, words
+        self.case = self.error = None
+        try:
+            packet, key = pair(words)
+            self.case = driver.sign_case(model, name_bytes(packet, "packet name"), name_bytes(key, "key name"))
+        except (Failure, ValueError) as fault:
+            self.error = str(fault)
+
+
+def sign_lines(args):
+    model = model_bytes(args.model)
+    labels = Labels(model)
+    verdict = driver.judge(model)
+    if isinstance(verdict, Refused):
+        return show(args, verdict)
+    status, done = YES, 0
+    lines = (Line(number, words, model) for number, words in word_lines(input_lines()))
+    with Progress() as progress:
+        for part in runs(lines, len(model)):
+            answers = iter(driver.ask([line.case for line in part if line.case]))
+            progress.clear()
+            for line in part:
+                status = max(status, show_error(args, line) if line.error else show_line(args, line, next(answers), labels))
+            done += len(part)
+            sys.stdout.flush()
+            progress.show(done)
+    if not done:
+        raise Failure("standard input has no pair of names")
+    return status
+
+
+def runs(lines, model_size):
+    """The lines in parts, one for each run of the driver. A person who types them gets each answer at once."""
+    count = 1 if standard_input().isatty() else min(RUN_PAIRS, RUN_BYTES // model_size)
+    while part := list(itertools.islice(lines, count)):
+        yield part
+
+
+def show_line(args, line, answer, labels):
+    packet, key = line.words
+    if args.json:
+        print_object({"line": line.number, "packet": packet, "key": key, **answer.object(labels)})
+    else:
+        print(f"{line.number:>4}  {answer.words(labels):<44}  {printable(packet)}  by  {printable(key)}")
+    return answer.status
+
+
+def show_error(args, line):
+    if args.json:
+        print_object({"line": line.number, "answer": "error", "error": line.error})
+    else:
+        sys.stdout.flush()
+        say(f"line {line.number}: {line.error}")
+    return ERROR
+
+
+def printable(uri):
+    """A name as it was given, but with %XX for what a terminal would not print."""
+    return "".join(c if c.isprintable() else quote(c, errors="surrogateescape") for c in uri)
+
+
+class Progress:
+    """How many pairs are answered, as a line that is written over; on a terminal only, and when one run is not enough."""
+
+    is_shown = False
+
+    def __enter__(self):
+        return self
+
+    def __exit__(self, *fault):
+        self.clear()
+
+    def show(self, done):
+        if done >= RUN_PAIRS and sys.stderr and sys.stderr.isatty():
+            print(f"lvs: {counted(done, 'pair')} answered", end="", file=sys.stderr, flush=True)
+            self.is_shown = True
+
+    def clear(self):
+        if self.is_shown:
+            print("\r\x1b[K", end="", file=sys.stderr, flush=True)
+            self.is_shown = False
