@@ -133,7 +133,7 @@ pub fn component_at(name: &[u8], at: usize) -> ComponentRead
     }
 }
 
-// The component that a slice begins with; where there is none, type 0 and no bytes.
+// The component that a slice begins with; where there is none, type 0 and no bytes. The contract leaves open where that empty part lies.
 pub fn read_component(s: &[u8]) -> Content
     ensures { λ r. ⌜ ContentOf (now (s .entry)) r ⌝ }
 {
