@@ -22,7 +22,7 @@ use Rattle.lvs_spec.specs.Leaves.{isComponent}
 use Rattle.lvs_spec.specs.Model.{componentFrom, componentOf}
 use Rattle.lvs_spec.specs.Names.{Component, componentsAt, nameFrom, nameOf, badName, goodName, rowReading, nameReading}
 use Rattle.lvs_names.specs.Rows.{rowAt, rowFrom}
-use Rattle.lvs_names.specs.Reading.{headerFrom, headerOf, countedFrom, countOf}
+use Rattle.lvs_names.specs.Answers.{headerFrom, headerOf, countedFrom, countOf}
 use Rattle.lvs_names.specs.Contents.{ContentOf, RowStep}
 use Rattle.lvs_names.specs.declared.Content.{Content}
 use Rattle.lvs_names.specs.declared.Counted.{Counted}

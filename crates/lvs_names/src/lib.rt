@@ -8,7 +8,7 @@ ghost use lib.Dec.{eqb};
 ghost use lib.ListN.{length};
 ghost use Rattle.lvs_spec.specs.Model.{componentOf};
 ghost use Rattle.lvs_spec.specs.Names.{same, nameReading};
-ghost use Rattle.lvs_names.specs.Reading.{nameRead, headerOf, countOf};
+ghost use Rattle.lvs_names.specs.Answers.{nameRead, headerOf, countOf};
 ghost use Rattle.lvs_names.specs.Contents.{ContentOf, Alone, ComponentAt};
 use tlv::Place;
 use tlv::Read;

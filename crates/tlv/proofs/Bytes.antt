@@ -72,7 +72,7 @@ spelled-big (x ∷ s) h =
     let lt = big-lt s (λ i. h (suc i)) in
     rw (digits-div x lt, digits-mod x lt, spelled-big s (λ i. h (suc i)))
 
--- ---- w + v bytes are the w bytes in front and the v behind them
+-- ---- w + v bytes are the first w bytes and the v after them
 
 big-append : (s t : List ℕ) → bigEndian (s ++ t) ≡ bigEndian s * 256 ^ length t + bigEndian t
 unfolding bigEndian

@@ -6,7 +6,7 @@ use Prim.Native.Nat.{ℕ, _-_}
 use native.Mathlib.Omega.{arith}
 use lib.ListN.{take, drop}
 use Rattle.tlv.specs.Number.{integer}
-use Rattle.tlv.specs.Reading.{integerOf, integerFrom}
+use Rattle.tlv.specs.Answers.{integerOf, integerFrom}
 use Rattle.tlv.specs.Lists.{first, firstOr}
 use Rattle.tlv.specs.Fields.{InsideOf, insides, theInside, numberOf, theInteger}
 use Rattle.tlv.specs.declared.Place.{Place}

@@ -15,7 +15,7 @@ use Rattle.tlv.specs.Fields.{eachCut, insideOf, insides}
 use Rattle.tlv.specs.declared.Place.{Place}
 use Rattle.tlv.specs.declared.Read.{Read}
 use Rattle.tlv.specs.declared.Read.the-variants.{End, Malformed}
-use Rattle.tlv.specs.Reading.{readAt}
+use Rattle.tlv.specs.Answers.{readAt}
 use Rattle.tlv.proofs.Cuts.{Step, seen, by-elements, cuts-end, cuts-malformed, cuts-next, rest-shorter}
 
 -- ---- what is left at a place, by what the reader answered there

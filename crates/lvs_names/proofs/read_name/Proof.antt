@@ -3,7 +3,7 @@ use borrow.Author.Needs.{needs}
 use native.Mathlib.Omega.{arith}
 use Prim.Native.Nat.{_<_}
 use mathlib.Core.Path.{sym, _∙_}
-use Rattle.lvs_names.specs.Reading.{headerOf}
+use Rattle.lvs_names.specs.Answers.{headerOf}
 use Rattle.lvs_names.proofs.Names.{too-long, headless, malformed-name, many-components, good-name}
 use Rattle.lvs_names.proofs.read_name.Statement.{statement}
 use Rattle.lvs_names.proofs.read_name.Tie as tie
