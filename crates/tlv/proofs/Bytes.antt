@@ -124,19 +124,23 @@ same-false s t n = go (sameBytes s t) refl
 pub same-length : (s t : List ℕ) → (length t ≡ length s → ⊥) → sameBytes s t ≡ false
 same-length s t n = same-false s t (λ e. n (ap length (sym e)))
 
--- a loop that compares from the front, at byte i
-module _ (s t : List ℕ) (i : ℕ) where
-  pub same-ends : length s ≤ i → length t ≤ i → sameBytes (drop i s) (drop i t) ≡ true
+-- a loop that compares from the front has found no difference before byte i
+pub record Compared (s t : List ℕ) (i : ℕ) : Type 0 where
+  pub within : i ≤ length s
+  pub rest : sameBytes (drop i s) (drop i t) ≡ sameBytes s t
+
+module _ {s t : List ℕ} {i : ℕ} (inv : Compared s t i) where
+  pub none-differs : length s ≤ i → length t ≤ i → true ≡ sameBytes s t
   unfolding sameBytes
-  same-ends h g = rw (drop-of-length-le s h, drop-of-length-le t g)
+  none-differs h g = sym (rw (drop-of-length-le s h, drop-of-length-le t g)) ∙ inv .rest
 
   module _ (h : i < length s) (g : i < length t) where
     turn : sameBytes (drop i s) (drop i t) ≡ (eqb (getD s i 0) (getD t i 0) && sameBytes (drop (i + 1) s) (drop (i + 1) t))
     unfolding sameBytes
     turn = rw (drop-cons s i 0, drop-cons t i 0, add-one i)
 
-    pub same-stops : (getD s i 0 ≡ getD t i 0 → ⊥) → sameBytes (drop i s) (drop i t) ≡ false
-    same-stops n = rw (turn, ne-eqb _ _ n)
+    pub one-differs : (getD s i 0 ≡ getD t i 0 → ⊥) → false ≡ sameBytes s t
+    one-differs n = sym (rw (turn, ne-eqb _ _ n)) ∙ inv .rest
 
-    pub same-goes-on : getD s i 0 ≡ getD t i 0 → sameBytes (drop i s) (drop i t) ≡ sameBytes (drop (i + 1) s) (drop (i + 1) t)
-    same-goes-on e = rw (turn, eq-eqb _ _ e)
+    pub one-agrees : getD s i 0 ≡ getD t i 0 → Compared s t (i + 1)
+    one-agrees e = record { within = omega arith; rest = sym (rw (turn, eq-eqb _ _ e)) ∙ inv .rest }

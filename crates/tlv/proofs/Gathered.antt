@@ -206,7 +206,8 @@ module _ {A : Type 0} where
       pub not-here : {x : A} {rest : List A} {r : Bool} → view (drop at s) ≡ x ∷ rest → r ≡ p x → r ≡ false → false ≡ all p (view s)
       not-here e read q = settled inv e (sym q ∙ read) (λ y. refl)
 
-      pub all-later : {x : A} {n : ℕ} {r : Bool} → view (drop at s) ≡ x ∷ view (drop n s) → r ≡ p x → r ≡ true → Gathered (all-of p) view s n true
+      pub all-later : {x : A} {n : ℕ} {r : Bool} → view (drop at s) ≡ x ∷ view (drop n s) → r ≡ p x → r ≡ true
+          → Gathered (all-of p) view s n true
       all-later e read q = took inv e (sym q ∙ read)
 
 -- elements that f gives any number of entries for; r is the test of those of the next one
@@ -257,7 +258,8 @@ pub record Searching {A : Type 0} (f : Element → List A) (s : List ℕ) (at : 
 
 module _ {A : Type 0} {f : Element → List A} {s : List ℕ} {at : ℕ} (inv : Searching f s at) where
   module _ {t start stop : ℕ} {n : Place} (st : Step s at t start stop n) where
-    pub search-here : {x : A} {xs : List A} → f (record { type = t; inside = take (stop - start) (drop start s) }) ≡ x ∷ xs → first (eachCut f (cuts s)) ≡ some x
+    pub search-here : {x : A} {xs : List A} → f (record { type = t; inside = take (stop - start) (drop start s) }) ≡ x ∷ xs
+        → first (eachCut f (cuts s)) ≡ some x
     search-here e = sym (inv .same) ∙ ap first (each-found f st) ∙ rw e
 
     pub search-on : f (record { type = t; inside = take (stop - start) (drop start s) }) ≡ [] → Searching f s (n .at)
