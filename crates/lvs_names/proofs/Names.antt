@@ -131,7 +131,8 @@ pub content-malformed : (b : List ℕ) → element (drop 0 b) ≡ malformed → 
 unfolding componentOf componentFrom
 content-malformed b p = record { order = omega arith; within = omega arith; is = rw p }
 
-pub content-found : {b : List ℕ} {typ start stop : ℕ} {p : Place} → Step b 0 typ start stop p → ContentOf b (record { typ = typ; start = start; end = stop })
+pub content-found : {b : List ℕ} {typ start stop : ℕ} {p : Place} → Step b 0 typ start stop p
+    → ContentOf b (record { typ = typ; start = start; end = stop })
 unfolding componentOf componentFrom
 content-found f = record { order = f .order; within = f .within; is = rw (f .first-is) }
 
@@ -232,7 +233,8 @@ module _ (b : List ℕ) where
       headless h = named (no-header h)
 
       module _ {r : Counted} (some-header : 0 < headerOf b) (counted : r ≡ countOf b (headerOf b)) where
-        counted-is : (o : Option (List Component)) → componentsAt (headerOf b) (cuts (drop (headerOf b) b)) ≡ o → (r ≡ countedFrom 0 o) × (nameReading base b ≡ rowReading base o)
+        counted-is : (o : Option (List Component)) → componentsAt (headerOf b) (cuts (drop (headerOf b) b)) ≡ o
+            → (r ≡ countedFrom 0 o) × (nameReading base b ≡ rowReading base o)
         unfolding countOf
         counted-is o p = (counted ∙ rw p, named (header-name some-header ∙ p))
 
@@ -259,9 +261,11 @@ module _ (b : List ℕ) where
         unfolding countedFrom rowReading rowFrom
         good-name n e h = go (componentsAt (headerOf b) (cuts (drop (headerOf b) b))) refl
           where
-            go : (o : Option (List Component)) → componentsAt (headerOf b) (cuts (drop (headerOf b) b)) ≡ o → nameReading base b ≡ goodName (rowAt (headerOf b) (cuts (drop (headerOf b) b)))
+            go : (o : Option (List Component)) → componentsAt (headerOf b) (cuts (drop (headerOf b) b)) ≡ o
+                → nameReading base b ≡ goodName (rowAt (headerOf b) (cuts (drop (headerOf b) b)))
             go none p = let x = counted-is none p .0 in let z : _≡_ {A = ℕ} 0 1 = cc in absurd (omega arith)
             go (some cs) p =
                 let x = counted-is (some cs) p .0 in
                 let y : n ≡ 0 + length cs = cc in
-                counted-is (some cs) p .1 ∙ rw (le-ltb maxComponents (length cs) (omega arith)) (ap goodName (sym (row-same (headerOf b) (cuts (drop (headerOf b) b)) cs p)))
+                counted-is (some cs) p .1 ∙
+                rw (le-ltb maxComponents (length cs) (omega arith)) (ap goodName (sym (row-same (headerOf b) (cuts (drop (headerOf b) b)) cs p)))

@@ -79,14 +79,16 @@ unfolding bigEndian
 big-append [] t = omega arith
 big-append (x ∷ s) t =
     let p : x * 256 ^ length (s ++ t) ≡ x * 256 ^ length s * 256 ^ length t =
-    ap (λ (k : ℕ). x * 256 ^ k) (length-append s t) ∙ ap (λ (k : ℕ). x * k) (pow-add 256 (length s) (length t)) ∙ sym (mul-assoc x (256 ^ length s) (256 ^ length t)) in
+    ap (λ (k : ℕ). x * 256 ^ k) (length-append s t) ∙ ap (λ (k : ℕ). x * k) (pow-add 256 (length s) (length t)) ∙
+    sym (mul-assoc x (256 ^ length s) (256 ^ length t)) in
     omega (arith, big-append s t, add-mul (x * 256 ^ length s) (bigEndian s) (256 ^ length t))
 
 pub one-byte : (s : List ℕ) (at : ℕ) → Bytes s → at < length s → Spelled s at 1 (getD s at 0)
 unfolding bigEndian
 one-byte s at h lt = record { is = rw (drop-cons s at 0) (omega arith); below = h at }
 
-pub joined : (s : List ℕ) (at w v : ℕ) {x y : ℕ} → Spelled s at w x → Spelled s (at + w) v y → at + (w + v) ≤ length s → Spelled s at (w + v) (x * 256 ^ v + y)
+pub joined : (s : List ℕ) (at w v : ℕ) {x y : ℕ} → Spelled s at w x → Spelled s (at + w) v y → at + (w + v) ≤ length s
+    → Spelled s at (w + v) (x * 256 ^ v + y)
 joined s at w v X Y fits =
     let back : List ℕ = take v (drop (at + w) s) in
     let long : length back ≡ v = length-take-le v (drop (at + w) s) (simp length-drop (omega arith)) in

@@ -173,7 +173,8 @@ module _ (b : List ℕ) {h : ℕ} {e : Element} {r : List ℕ} (by : Bytes b) (p
       record { type-ok = w .ok; length-ok = rw (w .inside-length) (number-fits (drop (w .type-size) b) (w .size) (w .length-size) (bytes-drop (w .type-size) b by) (w .sized-is)) }
 
 -- an element that was read takes as many bytes as its encoding
-pub element-size : (b : List ℕ) {h : ℕ} {e : Element} {r : List ℕ} → Bytes b → element b ≡ first h e r → length (elementBytes e) + length r ≡ length b
+pub element-size : (b : List ℕ) {h : ℕ} {e : Element} {r : List ℕ} → Bytes b → element b ≡ first h e r
+    → length (elementBytes e) + length r ≡ length b
 element-size b {h} {e} {r} by p = sym (length-append (elementBytes e) r) ∙ ap length (element-bytes b by p)
 
 pub step-size : {s : List ℕ} {at kind start stop : ℕ} {n : Place} → Bytes s → (f : Step s at kind start stop n)
