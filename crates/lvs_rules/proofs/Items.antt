@@ -15,7 +15,7 @@ use Rattle.lvs_spec.specs.Verdict.{Function as Known, eq, eqType, isValidId, is
 use Rattle.lvs_fields.specs.Fields.{functionRead}
 use Rattle.lvs_fields.specs.declared.Function.{Function}
 use Rattle.lvs_fields.specs.declared.Function.the-variants.{Eq, EqType, IsValidId, IsValidYear, Unknown}
-use Rattle.lvs_rules.specs.Lowest.{noRule, broken, leastOf, tagRule, argumentRule, callRule, termRule, optionRule, constraintRule, signerRule, destinationRule, valueEdgeRule, patternEdgeRule, nodeRule, symbolRule}
+use Rattle.lvs_rules.specs.Lowest.{noRule, broken, leastOf, tagRule, argumentRule, argumentsRule, callRule, termRule, termsRule, optionRule, constraintRule, ownRule, signerRule, destinationRule, valueEdgeRule, patternEdgeRule, nodeRule, symbolRule}
 use Rattle.lvs_rules.specs.Sorts.{typeOf, itemRule}
 use Rattle.lvs_rules.specs.declared.Sort.{Sort}
 use Rattle.lvs_rules.specs.declared.Sort.the-variants as sort
@@ -39,8 +39,8 @@ bad-by (some isValidId) n = refl
 bad-by (some isValidYear) n = refl
 
 pub bad-call : (b : List ℕ) {name : List ℕ} {n r : ℕ} {f k : Function} → name ≡ theInside type.FnId b → n ≡ length (insides type.UserFnArg b) → f ≡ functionRead (functionOf name)
-    → f ≡ k → r ≡ broken 12 (badBy k n) → r ≡ broken 12 (badCall (callOf b))
-unfolding badCall callOf
+    → f ≡ k → r ≡ broken 12 (badBy k n) → r ≡ argumentsRule (callOf b)
+unfolding argumentsRule badCall callOf
 bad-call b {name} {n} {r} {f} {k} p q g h e =
     let z : badCall (callOf b) ≡ badBy k n = rw (length-map (insides type.UserFnArg b) argumentOf, ← q, ← p) (bad-by (functionOf name) n ∙ ap (λ (x : Function). badBy x n) (sym g ∙ h)) in
     e ∙ ap (broken 12) (sym z)
@@ -104,7 +104,7 @@ module _ (parents : List ℕ) (i : ℕ) (b : List ℕ) where
     unfolding itemRule
     argument-item e h = rw e h
 
-    pub call-item : {a x : ℕ} → k ≡ sort.Call → a ≡ broken 12 (badCall (callOf b)) → x ≡ swept sort.Argument → r ≡ min a x → r ≡ itemRule parents i k b
+    pub call-item : {a x : ℕ} → k ≡ sort.Call → a ≡ argumentsRule (callOf b) → x ≡ swept sort.Argument → r ≡ min a x → r ≡ itemRule parents i k b
     unfolding itemRule typeOf callRule callOf
     call-item e f g h = rw (e, h, f, g, least-map argumentRule argumentOf (insides type.UserFnArg b))
 
@@ -112,7 +112,7 @@ module _ (parents : List ℕ) (i : ℕ) (b : List ℕ) where
     unfolding itemRule
     tag-item e f h = rw (e, h, f)
 
-    pub option-item : {a t c x : ℕ} → k ≡ sort.ConstraintOption → a ≡ broken 10 (not (eqb (length (optionOf b)) 1)) → t ≡ swept sort.Tag → c ≡ swept sort.Call → x ≡ min t c → r ≡ min a x
+    pub option-item : {a t c x : ℕ} → k ≡ sort.ConstraintOption → a ≡ termsRule (optionOf b) → t ≡ swept sort.Tag → c ≡ swept sort.Call → x ≡ min t c → r ≡ min a x
         → r ≡ itemRule parents i k b
     unfolding itemRule typeOf optionRule tagIn callIn
     option-item e f g h p q = rw (e, q, p, f, g, h, option-terms b)
@@ -140,6 +140,6 @@ module _ (parents : List ℕ) (i : ℕ) (b : List ℕ) where
 
   pub node-item : {d id v p s x y r : ℕ} → d ≡ theInteger type.NodeId b → id ≡ broken 6 (not (eqb d i)) → v ≡ swept sort.ValueEdge → p ≡ swept sort.PatternEdge → s ≡ swept sort.Signer
       → x ≡ min p s → y ≡ min v x → r ≡ min id y → r ≡ nodeRule parents i (nodeOf b)
-  unfolding itemRule typeOf nodeRule nodeOf integers
+  unfolding itemRule typeOf nodeRule ownRule nodeOf integers
   node-item fd fid fv fp fs fx fy h =
       rw (h, fid, fd, fy, fv, fx, fp, fs, least-map (valueEdgeRule parents i) valueEdgeOf (insides type.ValueEdge b), least-map (patternEdgeRule parents i) patternEdgeOf (insides type.PatternEdge b), least-map (signerRule parents) numberOf (insides type.SignConstraint b))

@@ -1,7 +1,7 @@
 -- The verdict on the bytes of a model, from what the code finds in them. Assumes nothing.
-use mathlib.Core.Path.{_≡_, sym, _∙_}
-use mathlib.Core.List.{List, map, map-map}
-use Prim.Native.Nat.{ℕ, _≤_, _<_, min}
+use mathlib.Core.Path.{_≡_, refl, sym, _∙_}
+use mathlib.Core.List.{List, [], _∷_, map, map-map}
+use Prim.Native.Nat.{ℕ, suc, _≤_, _<_, min}
 use native.Mathlib.Omega.{arith}
 use lib.Dec.{leb}
 use lib.ListN.{length, take, length-map}
@@ -11,12 +11,16 @@ use Rattle.lvs_spec.specs.Model.{insides, theInteger, nodeOf, symbolOf, modelOf
 use Rattle.lvs_spec.specs.Verdict.{Verdict, refused, judge, namesNone}
 use Rattle.lvs_rules.specs.Lowest.{broken, leastOf, nodeRule, parentIndex, symbolRule}
 use Rattle.lvs_rules.specs.Sorts.{typeOf, itemRule}
-use Rattle.lvs_rules.specs.Faults.{lowest, verdictOf}
+use Rattle.lvs_rules.specs.Faults.{lowestFrom, lowest, verdictOf}
 use Rattle.lvs_rules.specs.declared.Fault.{Fault}
 use Rattle.lvs_rules.specs.declared.Sort.the-variants as sort
 use Rattle.lvs_rules.proofs.Least.{least-map}
-use Rattle.lvs_rules.proofs.Scan.{lowest-map}
 use Rattle.lvs_rules.proofs.Verdict.{judge-few, judge-many}
+
+lowest-map : {A B : Type 0} (f : ℕ → B → ℕ) (h : A → B) (i : ℕ) (xs : List A) → lowestFrom f i (map h xs) ≡ lowestFrom (λ i x. f i (h x)) i xs
+unfolding lowestFrom
+lowest-map f h i [] = refl
+lowest-map f h i (x ∷ xs) = rw (lowest-map f h (suc i) xs)
 
 module _ (s : List ℕ) {n : ℕ} (count : n ≡ length (insides type.Node s)) where
   node-count : length (modelOf s .nodes) ≡ n

@@ -94,7 +94,7 @@ fn conclude(fault: Fault, whole: u32, nodes: u32) -> Judged
         return Judged::Accepted { nodes };
     }
     if rule == 5 {
-        return Judged::Refused { rule: 5, node: 0 };
+        return Judged::Refused { rule, node: 0 };
     }
     Judged::Refused {
         rule,

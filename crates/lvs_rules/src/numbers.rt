@@ -8,8 +8,8 @@ ghost use Rattle.lvs_spec.specs.Types as type;
 ghost use Rattle.lvs_rules.specs.Lowest.{broken, tagRule, destinationRule, signerRule};
 use lvs_spec::types::NODE_ID;
 
-// Above every rule: none is broken.
-pub(crate) const NO_RULE: u32 = 13;
+// Above every rule's number: none is broken.
+pub(crate) const NO_RULE: u32 = u32::MAX;
 
 // Rule 5: a Tag is 1 to 128.
 pub(crate) fn tag_rule(tag: u64) -> u32

@@ -4,8 +4,7 @@ ghost use mathlib.Core.Bool.{not};
 ghost use lib.Dec.{eqb};
 ghost use lib.ListN.{length};
 ghost use Rattle.lvs_spec.specs.Model.{callOf, optionOf, argumentOf, insides};
-ghost use Rattle.lvs_spec.specs.Verdict.{badCall};
-ghost use Rattle.lvs_rules.specs.Lowest.{broken, argumentRule};
+ghost use Rattle.lvs_rules.specs.Lowest.{broken, argumentRule, argumentsRule, termsRule};
 use crate::numbers::NO_RULE;
 use crate::numbers::tag_rule;
 use lvs_fields::Function;
@@ -50,7 +49,7 @@ pub(crate) fn argument_rule(b: &[u8]) -> u32
 
 // Rule 12 of a call.
 pub(crate) fn arguments_rule(call: &[u8]) -> u32
-    ensures { λ r. ⌜ r ≡ broken 12 (badCall (callOf (now (call .entry)))) ⌝ }
+    ensures { λ r. ⌜ r ≡ argumentsRule (callOf (now (call .entry))) ⌝ }
 {
     let part = lvs_fields::inside_of(call, FN_ID);
     let start = part.start;
@@ -73,7 +72,7 @@ fn number_rule(n: usize, arity: usize) -> u32
 
 // Rule 10 of a ConstraintOption.
 pub(crate) fn terms_rule(b: &[u8]) -> u32
-    ensures { λ r. ⌜ r ≡ broken 10 (not (eqb (length (optionOf (now (b .entry)))) 1)) ⌝ }
+    ensures { λ r. ⌜ r ≡ termsRule (optionOf (now (b .entry))) ⌝ }
 {
     let n = term_count(b);
     if n == 1 { NO_RULE } else { 10 }
