@@ -8,11 +8,12 @@ use native.Mathlib.Omega.{arith}
 use borrow.Author.Tests.{lt-ltb, le-ltb, ltb-false}
 use lib.Dec.{ltb}
 use lib.ListN.{length, drop, length-map}
-use Rattle.lvs_spec.specs.Lists.{first}
+use Rattle.tlv.specs.Lists.{first}
 use Rattle.lvs_spec.specs.Limits.{maxModelBytes, maxNodes, maxNameBytes, bindingWords}
 use Rattle.lvs_spec.specs.Types as type
 use Rattle.lvs_spec.specs.WellFormed.{tooLong, otherVersion, wellFormed}
-use Rattle.lvs_spec.specs.Model.{Model, insides, nodeOf, modelOf}
+use Rattle.lvs_spec.specs.Model.{Model, nodeOf, modelOf}
+use Rattle.tlv.specs.Fields.{insides}
 use Rattle.lvs_spec.specs.Verdict.{Verdict, unreadable, describes, reading, rules, decide, judge, verdict}
 use Rattle.lvs_spec.specs.Names.{Component, badName, goodName, nameReading, packetName, keyName}
 use Rattle.lvs_spec.specs.Walk.{Bindings, packetMatches, pairs}

@@ -9,7 +9,7 @@ use borrow.Author.Tests.{ne-eqb, lt-ltb, le-ltb}
 use lib.ListN.{length, getD, set, take, drop, length-drop, drop-of-length-le, List·getD-eq-default}
 use lib.Seq.{take-all}
 use Rattle.tlv.specs.Element.{Element}
-use Rattle.lvs_spec.specs.Lists.{bind, is, all}
+use Rattle.tlv.specs.Lists.{bind, is, all}
 use Rattle.lvs_spec.specs.Limits.{maxTag, bindingWords}
 use Rattle.lvs_spec.specs.Model.{Argument, PatternEdge, componentOf, patternEdgeOf}
 use Rattle.lvs_spec.specs.Names.{Component, same}

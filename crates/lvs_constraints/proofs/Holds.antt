@@ -10,17 +10,17 @@ use lib.ListN.{length, take, drop}
 use Rattle.tlv.specs.Element.{Element, cuts}
 use Rattle.tlv.specs.declared.Place.{Place}
 use Rattle.tlv.proofs.Cuts.{Step, cuts-end, element-nil}
-use Rattle.lvs_spec.specs.Lists.{any, all, is, bind, first, firstOr}
-use Rattle.lvs_spec.proofs.Search.{any-append}
+use Rattle.tlv.specs.Lists.{any, all, is, bind, first, firstOr}
+use Rattle.tlv.proofs.Gathered.{any-append, Stop, each-found, each-stop, insides-found, insides-other, insides-stop}
 use Rattle.lvs_spec.specs.Types as type
-use Rattle.lvs_spec.specs.Model.{Argument, eachCut, insides, theInside, numberOf, componentOf, argumentFrom, argumentOf, callOf, termFrom, optionOf, constraintOf, patternEdgeOf}
+use Rattle.lvs_spec.specs.Model.{Argument, componentOf, argumentFrom, argumentOf, callOf, termFrom, optionOf, constraintOf, patternEdgeOf}
+use Rattle.tlv.specs.Fields.{eachCut, insides, theInside, numberOf}
 use Rattle.lvs_spec.specs.Names.{same}
 use Rattle.lvs_spec.specs.Verdict.{Function as Known, eq, eqType, isValidId, isValidYear, functionOf}
 use Rattle.lvs_spec.specs.Walk.{Bindings, bound, boundTo, argumentIn, holds, callHolds, termHolds, optionHolds, constraintHolds}
-use Rattle.lvs_fields.specs.Fields.{functionRead}
-use Rattle.lvs_fields.specs.declared.Function.{Function}
-use Rattle.lvs_fields.specs.declared.Function.the-variants.{Eq, EqType, IsValidId, IsValidYear, Unknown}
-use Rattle.lvs_fields.proofs.Elements.{Stop, each-found, each-stop, insides-found, insides-other, insides-stop}
+use Rattle.lvs_functions.specs.Functions.{functionRead}
+use Rattle.lvs_functions.specs.declared.Function.{Function}
+use Rattle.lvs_functions.specs.declared.Function.the-variants.{Eq, EqType, IsValidId, IsValidYear, Unknown}
 use Rattle.lvs_constraints.specs.Arguments.{ValueAt}
 
 -- ---- an argument

@@ -8,7 +8,8 @@ use mathlib.Core.Option.{Option, none, some}
 use lib.Dec.{eqb, ltb}
 use lib.ListN.{length, drop}
 use Rattle.lvs_spec.specs.Types as type
-use Rattle.lvs_spec.specs.Model.{PatternEdge, insides, componentOf, constraintOf}
+use Rattle.lvs_spec.specs.Model.{PatternEdge, componentOf, constraintOf}
+use Rattle.tlv.specs.Fields.{insides}
 use Rattle.lvs_spec.specs.Names.{Component}
 use Rattle.lvs_spec.specs.Walk.{Bindings, bound}
 use Rattle.lvs_constraints.specs.declared.Slot.{Slot}

@@ -8,7 +8,7 @@ ghost use mathlib.Core.Path.{_≡_};
 ghost use Prim.Native.Nat.{_+_};
 ghost use lib.Dec.{eqb};
 ghost use lib.ListN.{length};
-ghost use Rattle.lvs_spec.specs.Lists.{any, all, is};
+ghost use Rattle.tlv.specs.Lists.{any, all, is};
 ghost use Rattle.lvs_spec.specs.Limits.{bindingWords};
 ghost use Rattle.lvs_names.specs.Contents.{Alone};
 ghost use Rattle.lvs_spec.specs.Model.{PatternEdge, componentOf, argumentOf, callOf, termFrom, optionOf, constraintOf, patternEdgeOf};
@@ -16,7 +16,7 @@ ghost use Rattle.lvs_spec.specs.Names.{same};
 ghost use Rattle.lvs_spec.specs.Walk.{boundTo, argumentIn, callHolds, termHolds, optionHolds, constraintHolds, crosses};
 ghost use Rattle.lvs_constraints.specs.Bindings.{textFrom, bindingsOf, SlotOf, EdgeWith};
 ghost use Rattle.lvs_constraints.specs.Arguments.{ArgumentAt};
-use lvs_fields::Function;
+use lvs_functions::Function;
 use lvs_spec::types::CONSTRAINT;
 use lvs_spec::types::CONSTRAINT_OPTION;
 use lvs_spec::types::FN_ID;
@@ -115,7 +115,7 @@ fn argument_of(s: &[u8]) -> ArgumentRead
                     return ArgumentRead::Value(start, end);
                 }
                 if typ == TAG {
-                    return ArgumentRead::Tag(lvs_fields::number_of(&s[start..end]));
+                    return ArgumentRead::Tag(tlv::number_of(&s[start..end]));
                 }
                 place = next;
             }
@@ -166,13 +166,13 @@ fn call_holds<'a>(s: &[u8], packet: &'a [u8], key: &'a [u8], slots: &[u32], c: &
     requires { ⌜ Alone (now c) ⌝ }
     ensures { λ r. ⌜ r ≡ callHolds (bindingsOf (now (packet .entry)) (now (key .entry)) (now (slots .entry))) (componentOf (now (c .entry))) (callOf (now (s .entry))) ⌝ }
 {
-    let name = lvs_fields::inside_of(s, FN_ID);
+    let name = tlv::inside_of(s, FN_ID);
     let p = name.start;
     let q = name.end;
-    let argument = lvs_fields::inside_of(s, USER_FN_ARG);
+    let argument = tlv::inside_of(s, USER_FN_ARG);
     let a = argument.start;
     let b = argument.end;
-    match lvs_fields::function_of(&s[p..q]) {
+    match lvs_functions::function_of(&s[p..q]) {
         Function::Eq => argument_same(&s[a..b], packet, key, slots, c),
         Function::EqType => argument_same_type(&s[a..b], packet, key, slots, c),
         Function::IsValidId => lvs_names::value_size(c) == 6,
@@ -199,7 +199,7 @@ fn term_holds<'a>(
         return lvs_names::begins_with(s, c);
     }
     if typ == TAG {
-        return bound_same(packet, key, slots, lvs_fields::number_of(s), c);
+        return bound_same(packet, key, slots, tlv::number_of(s), c);
     }
     if typ == USER_FN_CALL {
         return call_holds(s, packet, key, slots, c);

@@ -11,11 +11,12 @@ use Rattle.tlv.specs.Element.{Element, done, nexts, cuts}
 use Rattle.tlv.proofs.RoundTrip.{split-nexts}
 use Rattle.tlv_reader.specs.declared.Count.the-variants.{Elements}
 use Rattle.tlv_reader.specs.Count.{one, ofType, countFrom, countOf}
-use Rattle.lvs_spec.specs.Lists.{when, each}
+use Rattle.tlv.specs.Lists.{when, each}
 use Rattle.lvs_spec.specs.Types as type
 use Rattle.lvs_spec.specs.Grammar.{model, order}
 use Rattle.lvs_spec.specs.WellFormed.{tooLong, otherVersion, wellFormed, wellFormedBy}
-use Rattle.lvs_spec.specs.Model.{insideOf, insides, nodeOf, modelOf}
+use Rattle.tlv.specs.Fields.{insideOf, insides}
+use Rattle.lvs_spec.specs.Model.{nodeOf, modelOf}
 use Rattle.lvs_spec.specs.Verdict.{accepted, refused, decide, rules, judge, reading, verdict}
 use Rattle.lvs_spec.proofs.Grammar.{eachCut-nexts, Row, row}
 

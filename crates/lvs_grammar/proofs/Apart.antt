@@ -7,7 +7,7 @@ use mathlib.Core.Option.{none}
 use borrow.Author.Tests.{ne-eqb}
 use lib.Dec.{eqb}
 use lib.ListN.{drop}
-use Rattle.lvs_spec.specs.Lists.{member}
+use Rattle.tlv.specs.Lists.{member}
 use Rattle.lvs_spec.specs.Grammar.{Kind, Known, Item, once, maybe, many, knownTypes, lookup, unknown, meaning, order, step}
 
 -- t is none of these, and A: as the rest of a `match` has it

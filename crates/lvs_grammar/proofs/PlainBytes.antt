@@ -17,7 +17,7 @@ use Rattle.tlv.specs.declared.IntegerRead.the-variants.{Integer, OtherSize}
 use Rattle.tlv.specs.declared.Read.{Read}
 use Rattle.tlv.specs.declared.Read.the-variants.{Found, End, Malformed}
 use Rattle.tlv.proofs.Cuts.{Whole, element-whole}
-use Rattle.lvs_spec.specs.Lists.{all}
+use Rattle.tlv.specs.Lists.{all}
 use Rattle.lvs_spec.specs.Limits.{maxComponentType}
 use Rattle.lvs_spec.specs.Leaves.{isComponent, oneComponent, letter, letterOrDigit, identifier, marked}
 

@@ -11,7 +11,7 @@ use borrow.Author.Tests.{eqb-true, ltb-true, ltb-false, leb-true, le-leb, lt-leb
 use lib.Dec.{leb, ltb, eqb}
 use lib.ListN.{length, drop, drop-of-length-le}
 use lib.Seq.{drop-drop}
-use Rattle.lvs_spec.specs.Lists.{member, guard}
+use Rattle.tlv.specs.Lists.{member, guard}
 use Rattle.lvs_spec.specs.Grammar.{Kind, Item, once, maybe, many, order, step, final}
 use Rattle.lvs_spec.proofs.Grammar.{both}
 use Rattle.lvs_grammar.specs.declared.order.Next.{Next}

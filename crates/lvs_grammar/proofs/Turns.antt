@@ -12,7 +12,7 @@ use Rattle.tlv.specs.declared.Place.{Place}
 use Rattle.tlv.specs.declared.Read.{Read}
 use Rattle.tlv.specs.declared.Read.the-variants.{Found, End, Malformed}
 use Rattle.tlv.proofs.Cuts.{seen}
-use Rattle.lvs_spec.specs.Lists.{is}
+use Rattle.tlv.specs.Lists.{is}
 use Rattle.lvs_spec.specs.Grammar as grammar
 use Rattle.lvs_spec.specs.Grammar.{Kind, meaning, order, step, final}
 use Rattle.lvs_spec.specs.WellFormed.{insideOk, inOrder, wellFormedBy, firstKnown, isOtherVersion, otherVersion}

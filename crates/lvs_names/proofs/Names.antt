@@ -14,7 +14,7 @@ use Rattle.tlv.specs.Element.{Element, First, end, malformed, first, element, C
 use Rattle.tlv.specs.declared.Place.{Place}
 use Rattle.tlv.proofs.Cuts.{Step, element-whole}
 use Rattle.tlv.proofs.RoundTrip.{step-size}
-use Rattle.lvs_spec.specs.Lists.{bind, guard}
+use Rattle.tlv.specs.Lists.{bind, guard}
 use Rattle.lvs_spec.specs.Limits.{maxComponentType, maxComponents, maxNameBytes}
 use Rattle.lvs_spec.specs.Types as type
 use Rattle.lvs_spec.specs.Leaves.{isComponent}

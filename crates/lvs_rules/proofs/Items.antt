@@ -8,13 +8,14 @@ use native.Mathlib.Nat.{min-eq-right}
 use lib.Dec.{eqb}
 use lib.ListN.{length, length-map}
 use Rattle.tlv.specs.Element.{Element, Cuts, done, broken as torn, next, cuts}
-use Rattle.lvs_spec.specs.Lists.{when, is}
+use Rattle.tlv.specs.Lists.{when, is}
 use Rattle.lvs_spec.specs.Types as type
-use Rattle.lvs_spec.specs.Model.{Term, eachCut, insideOf, insides, numberOf, integers, theInteger, theInside, componentOf, argumentOf, callOf, termFrom, optionOf, constraintOf, valueEdgeOf, patternEdgeOf, nodeOf, symbolOf}
+use Rattle.lvs_spec.specs.Model.{Term, componentOf, argumentOf, callOf, termFrom, optionOf, constraintOf, valueEdgeOf, patternEdgeOf, nodeOf, symbolOf}
+use Rattle.tlv.specs.Fields.{eachCut, insideOf, insides, numberOf, integers, theInteger, theInside}
 use Rattle.lvs_spec.specs.Verdict.{Function as Known, eq, eqType, isValidId, isValidYear, functionOf, arity, badCall}
-use Rattle.lvs_fields.specs.Fields.{functionRead}
-use Rattle.lvs_fields.specs.declared.Function.{Function}
-use Rattle.lvs_fields.specs.declared.Function.the-variants.{Eq, EqType, IsValidId, IsValidYear, Unknown}
+use Rattle.lvs_functions.specs.Functions.{functionRead}
+use Rattle.lvs_functions.specs.declared.Function.{Function}
+use Rattle.lvs_functions.specs.declared.Function.the-variants.{Eq, EqType, IsValidId, IsValidYear, Unknown}
 use Rattle.lvs_rules.specs.Lowest.{noRule, broken, leastOf, tagRule, argumentRule, argumentsRule, callRule, termRule, termsRule, optionRule, constraintRule, ownRule, signerRule, destinationRule, valueEdgeRule, patternEdgeRule, nodeRule, symbolRule}
 use Rattle.lvs_rules.specs.Sorts.{typeOf, itemRule}
 use Rattle.lvs_rules.specs.declared.Sort.{Sort}

@@ -6,7 +6,7 @@ use Prim.Native.Nat.{ℕ, _+_, _≤_, _<_, min}
 use native.Mathlib.Nat.{le-antisymm, le-trans, le-refl, le-min, min-comm, min-le-left, min-le-right, min-eq-left, min-eq-right}
 use borrow.Author.Tests.{eq-eqb, ne-eqb, le-leb, lt-leb, lt-ltb, le-ltb}
 use lib.Dec.{leb, eqb}
-use Rattle.lvs_spec.specs.Lists.{each}
+use Rattle.tlv.specs.Lists.{each}
 use Rattle.lvs_spec.specs.Limits.{maxTag}
 use Rattle.lvs_spec.specs.Verdict.{badTag}
 use Rattle.lvs_rules.specs.Lowest.{noRule, broken, leastOf, tagRule}

@@ -15,12 +15,13 @@ use lib.Seq.{take-suc-set}
 use Rattle.tlv.specs.Element.{Element, cuts}
 use Rattle.tlv.specs.declared.Place.{Place}
 use Rattle.tlv.proofs.Cuts.{Step}
-use Rattle.lvs_spec.specs.Lists.{first}
+use Rattle.tlv.specs.Lists.{first}
 use Rattle.lvs_spec.specs.Limits.{maxNodes}
 use Rattle.lvs_spec.specs.Types as type
-use Rattle.lvs_spec.specs.Model.{Argument, eachCut, insideOf, insides, componentOf, numberOf, integers, argumentFrom, argumentOf, termFrom, nodeOf}
-use Rattle.lvs_fields.proofs.Elements.{Stop, Searching, search-here, search-on, search-none, each-found, each-stop, inside-taken, insides-found, insides-other, insides-stop}
-use Rattle.lvs_fields.proofs.Fields.{first-or, or-default}
+use Rattle.lvs_spec.specs.Model.{Argument, componentOf, argumentFrom, argumentOf, termFrom, nodeOf}
+use Rattle.tlv.specs.Fields.{eachCut, insideOf, insides, numberOf, integers}
+use Rattle.tlv.proofs.Gathered.{Stop, Searching, search-here, search-on, search-none, each-found, each-stop, inside-taken, insides-found, insides-other, insides-stop}
+use Rattle.tlv.proofs.Fields.{first-or, or-default}
 use Rattle.lvs_rules.specs.Lowest.{noRule, leastOf, tagRule, argumentRule, parentFrom, parentIndex}
 use Rattle.lvs_rules.specs.Faults.{earlier, lowestFrom, lowest}
 use Rattle.lvs_rules.specs.declared.Fault.{Fault}

@@ -7,7 +7,7 @@ use native.Mathlib.Nat.{min-comm, min-eq-left}
 use native.Mathlib.Omega.{arith}
 use borrow.Author.Tests.{le-ltb}
 use lib.ListN.{length}
-use Rattle.lvs_spec.specs.Lists.{each}
+use Rattle.tlv.specs.Lists.{each}
 use Rattle.lvs_spec.specs.Limits.{maxNodes}
 use Rattle.lvs_spec.specs.Model.{Model, Node, PatternEdge, Edge, destination, edges, Symbol, Constraint, ConstraintOption, Term, Call, Argument}
 use Rattle.lvs_spec.specs.Verdict.{rules, destinations, options, terms, callsIn, calls, argumentTags, termTags, nodeTags, namesNone, badTag, badCall}

@@ -9,7 +9,7 @@ use native.Mathlib.Omega.{arith}
 use borrow.Author.Tests.{eq-eqb, ne-eqb, le-leb, lt-leb, ltb-false, leb-false}
 use lib.Dec.{leb, ltb, eqb}
 use lib.ListN.{length, getD, getElem?, length-map}
-use Rattle.lvs_spec.specs.Lists.{bind, is}
+use Rattle.tlv.specs.Lists.{bind, is}
 use Rattle.lvs_spec.specs.Limits.{maxNodes}
 use Rattle.lvs_spec.specs.Model.{Model, Node}
 use Rattle.lvs_spec.specs.Verdict.{namesNone, notParent}

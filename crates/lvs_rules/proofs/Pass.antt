@@ -10,8 +10,8 @@ use native.Mathlib.Omega.{arith}
 use borrow.Author.Tests.{lt-ltb, le-ltb, ne-eqb, ltb-false}
 use lib.Dec.{ltb, eqb}
 use lib.ListN.{length}
-use Rattle.lvs_spec.proofs.Search.{any-append}
-use Rattle.lvs_spec.specs.Lists.{any, each}
+use Rattle.tlv.proofs.Gathered.{any-append}
+use Rattle.tlv.specs.Lists.{any, each}
 use Rattle.lvs_spec.specs.Model.{Model, Node, Symbol}
 use Rattle.lvs_spec.specs.Verdict.{Test, whole, someTag, someNode, someDestination, someSigner, someOption, someCall, Verdict, refused, fault, decide, somewhere, firstFault, tags, nodeTags, destinations, options, calls}
 use Rattle.lvs_rules.specs.Lowest.{noRule}

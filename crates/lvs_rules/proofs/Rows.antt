@@ -8,7 +8,7 @@ use native.Mathlib.Omega.{arith}
 use borrow.Author.Tests.{leb-true}
 use lib.Dec.{leb, eqb}
 use Rattle.lvs_spec.proofs.Grammar.{both}
-use Rattle.lvs_spec.specs.Lists.{any}
+use Rattle.tlv.specs.Lists.{any}
 use Rattle.lvs_spec.specs.Model.{Model, Node, Symbol, ConstraintOption, Call}
 use Rattle.lvs_spec.specs.Verdict.{Test, whole, someTag, someNode, someDestination, someSigner, someOption, someCall, nodeTags, destinations, options, calls}
 use Rattle.lvs_rules.specs.Lowest.{noRule, leastOf}

@@ -7,7 +7,8 @@ use lib.Dec.{leb}
 use lib.ListN.{length, take, length-map}
 use Rattle.lvs_spec.specs.Limits.{maxNodes}
 use Rattle.lvs_spec.specs.Types as type
-use Rattle.lvs_spec.specs.Model.{insides, theInteger, nodeOf, symbolOf, modelOf}
+use Rattle.tlv.specs.Fields.{insides, theInteger}
+use Rattle.lvs_spec.specs.Model.{nodeOf, symbolOf, modelOf}
 use Rattle.lvs_spec.specs.Verdict.{Verdict, refused, judge, namesNone}
 use Rattle.lvs_rules.specs.Lowest.{broken, leastOf, nodeRule, parentIndex, symbolRule}
 use Rattle.lvs_rules.specs.Sorts.{typeOf, itemRule}

@@ -2,7 +2,8 @@
 use Prim.Native.Nat.{ℕ}
 use mathlib.Core.List.{List}
 use Rattle.lvs_spec.specs.Types as type
-use Rattle.lvs_spec.specs.Model.{numberOf, argumentOf, callOf, optionOf, constraintOf, valueEdgeOf, patternEdgeOf, symbolOf}
+use Rattle.tlv.specs.Fields.{numberOf}
+use Rattle.lvs_spec.specs.Model.{argumentOf, callOf, optionOf, constraintOf, valueEdgeOf, patternEdgeOf, symbolOf}
 use Rattle.lvs_rules.specs.Lowest.{argumentRule, callRule, tagRule, optionRule, constraintRule, valueEdgeRule, patternEdgeRule, signerRule, symbolRule}
 use Rattle.lvs_rules.specs.declared.Sort.{Sort}
 use Rattle.lvs_rules.specs.declared.Sort.the-variants.{Argument, Call, Tag, ConstraintOption, Constraint, ValueEdge, PatternEdge, Signer, Symbol}

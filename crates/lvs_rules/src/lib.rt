@@ -32,7 +32,8 @@ ghost use mathlib.Core.Path.{_≡_};
 ghost use Prim.Native.Nat.{_≤_, _<_, min};
 ghost use lib.ListN.{length};
 ghost use Rattle.lvs_spec.specs.Limits.{maxNodes};
-ghost use Rattle.lvs_spec.specs.Model.{modelOf, nodeOf, insides};
+ghost use Rattle.lvs_spec.specs.Model.{modelOf, nodeOf};
+ghost use Rattle.tlv.specs.Fields.{insides};
 ghost use Rattle.lvs_spec.specs.Types as type;
 ghost use Rattle.lvs_spec.specs.Verdict.{judge};
 ghost use Rattle.lvs_rules.specs.Lowest.{leastOf, nodeRule};
@@ -152,7 +153,7 @@ fn earlier(a: Fault, b: Fault) -> Fault
 fn node_rule(node: &[u8], i: u32, parents: &[u32]) -> u32
     ensures { λ r. ⌜ r ≡ nodeRule (now (parents .entry)) i (nodeOf (now (node .entry))) ⌝ }
 {
-    let id = id_rule(lvs_fields::number_in(node, NODE_ID), i);
+    let id = id_rule(tlv::number_in(node, NODE_ID), i);
     let values = sweep(node, Sort::ValueEdge, i, parents);
     let patterns = sweep(node, Sort::PatternEdge, i, parents);
     let signers = sweep(node, Sort::Signer, i, parents);
@@ -196,21 +197,21 @@ fn item_rule(b: &[u8], sort: Sort, i: u32, parents: &[u32]) -> u32
     match sort {
         Sort::Argument => argument_rule(b),
         Sort::Call => lower(arguments_rule(b), sweep(b, Sort::Argument, i, parents)),
-        Sort::Tag => tag_rule(lvs_fields::number_of(b)),
+        Sort::Tag => tag_rule(tlv::number_of(b)),
         Sort::ConstraintOption => {
             let tags = sweep(b, Sort::Tag, i, parents);
             let calls = sweep(b, Sort::Call, i, parents);
             lower(terms_rule(b), lower(tags, calls))
         }
         Sort::Constraint => sweep(b, Sort::ConstraintOption, i, parents),
-        Sort::ValueEdge => destination_rule(lvs_fields::number_in(b, NODE_ID), i, parents),
+        Sort::ValueEdge => destination_rule(tlv::number_in(b, NODE_ID), i, parents),
         Sort::PatternEdge => {
-            let tag = tag_rule(lvs_fields::number_in(b, TAG));
-            let to = destination_rule(lvs_fields::number_in(b, NODE_ID), i, parents);
+            let tag = tag_rule(tlv::number_in(b, TAG));
+            let to = destination_rule(tlv::number_in(b, NODE_ID), i, parents);
             lower(tag, lower(to, sweep(b, Sort::Constraint, i, parents)))
         }
-        Sort::Signer => signer_rule(lvs_fields::number_of(b), parents),
-        Sort::Symbol => tag_rule(lvs_fields::number_in(b, TAG)),
+        Sort::Signer => signer_rule(tlv::number_of(b), parents),
+        Sort::Symbol => tag_rule(tlv::number_in(b, TAG)),
     }
 }
 

@@ -3,7 +3,7 @@ ghost use mathlib.Core.Path.{_≡_};
 ghost use mathlib.Core.Bool.{not};
 ghost use Prim.Native.Nat.{_<_};
 ghost use lib.Dec.{leb, eqb};
-ghost use Rattle.lvs_spec.specs.Model.{theInteger};
+ghost use Rattle.tlv.specs.Fields.{theInteger};
 ghost use Rattle.lvs_spec.specs.Types as type;
 ghost use Rattle.lvs_rules.specs.Lowest.{broken, tagRule, destinationRule, signerRule};
 use lvs_spec::types::NODE_ID;
@@ -35,7 +35,7 @@ pub(crate) fn id_rule(id: u64, i: u32) -> u32
 pub(crate) fn start_rule(model: &[u8], n: usize) -> u32
     ensures { λ r. ⌜ r ≡ broken 7 (leb n (theInteger type.NodeId (now (model .entry)))) ⌝ }
 {
-    let start = lvs_fields::number_in(model, NODE_ID);
+    let start = tlv::number_in(model, NODE_ID);
     if n as u64 <= start { 7 } else { NO_RULE }
 }
 

@@ -3,11 +3,12 @@ ghost use mathlib.Core.Path.{_≡_};
 ghost use mathlib.Core.Bool.{not};
 ghost use lib.Dec.{eqb};
 ghost use lib.ListN.{length};
-ghost use Rattle.lvs_spec.specs.Model.{callOf, optionOf, argumentOf, insides};
+ghost use Rattle.lvs_spec.specs.Model.{callOf, optionOf, argumentOf};
+ghost use Rattle.tlv.specs.Fields.{insides};
 ghost use Rattle.lvs_rules.specs.Lowest.{broken, argumentRule, argumentsRule, termsRule};
 use crate::numbers::NO_RULE;
 use crate::numbers::tag_rule;
-use lvs_fields::Function;
+use lvs_functions::Function;
 use lvs_spec::types::FN_ID;
 use lvs_spec::types::TAG;
 use lvs_spec::types::USER_FN_ARG;
@@ -34,7 +35,7 @@ pub(crate) fn argument_rule(b: &[u8]) -> u32
                     return NO_RULE;
                 }
                 if typ == TAG {
-                    return tag_rule(lvs_fields::number_of(&b[start..end]));
+                    return tag_rule(tlv::number_of(&b[start..end]));
                 }
             }
             Read::End => {
@@ -51,11 +52,11 @@ pub(crate) fn argument_rule(b: &[u8]) -> u32
 pub(crate) fn arguments_rule(call: &[u8]) -> u32
     ensures { λ r. ⌜ r ≡ argumentsRule (callOf (now (call .entry))) ⌝ }
 {
-    let part = lvs_fields::inside_of(call, FN_ID);
+    let part = tlv::inside_of(call, FN_ID);
     let start = part.start;
     let end = part.end;
     let n = count_of(call, USER_FN_ARG);
-    match lvs_fields::function_of(&call[start..end]) {
+    match lvs_functions::function_of(&call[start..end]) {
         Function::Eq => number_rule(n, 1),
         Function::EqType => number_rule(n, 1),
         Function::IsValidId => number_rule(n, 0),

@@ -5,7 +5,8 @@ ghost use mathlib.Core.Option.{some};
 ghost use Prim.Native.Nat.{_≤_, _<_};
 ghost use lib.ListN.{length, take};
 ghost use Rattle.lvs_spec.specs.Limits.{maxNodes};
-ghost use Rattle.lvs_spec.specs.Model.{nodeOf, insides};
+ghost use Rattle.lvs_spec.specs.Model.{nodeOf};
+ghost use Rattle.tlv.specs.Fields.{insides};
 ghost use Rattle.lvs_spec.specs.Types as type;
 ghost use Rattle.lvs_rules.specs.Lowest.{parentFrom, parentIndex};
 use lvs_spec::types::NODE;
@@ -67,7 +68,7 @@ fn parent_of(node: &[u8]) -> u32
             } => {
                 place = next;
                 if typ == PARENT {
-                    return index_of(lvs_fields::number_of(&node[start..end]));
+                    return index_of(tlv::number_of(&node[start..end]));
                 }
             }
             Read::End => {

@@ -11,12 +11,13 @@ use lib.Seq.{length-take-le, take-add, drop-at, drop-drop}
 use Rattle.tlv.specs.Number.{integer}
 use Rattle.tlv.specs.declared.Place.{Place}
 use Rattle.tlv.proofs.Cuts.{Step, cuts-end, element-nil}
-use Rattle.lvs_spec.specs.Lists.{member, any}
+use Rattle.tlv.specs.Lists.{member, any}
 use Rattle.lvs_spec.specs.Types as type
-use Rattle.lvs_spec.specs.Model.{Node, eachCut, insides, integers, theInside, theInteger, numberOf, nodeOf, modelOf}
+use Rattle.lvs_spec.specs.Model.{Node, nodeOf, modelOf}
+use Rattle.tlv.specs.Fields.{eachCut, insides, integers, theInside, theInteger, numberOf}
 use Rattle.lvs_spec.specs.Walk.{noNode, nodeAt, lists}
-use Rattle.lvs_fields.proofs.Elements.{Stop, insides-found, insides-other, insides-stop}
-use Rattle.lvs_fields.specs.declared.Part.{Part}
+use Rattle.tlv.proofs.Gathered.{Stop, insides-found, insides-other, insides-stop}
+use Rattle.tlv.specs.declared.Part.{Part}
 use Rattle.lvs_walk.specs.Nodes.{nodeInside, inBody, BodyFrom, BodyPart, EdgeAt}
 
 -- ---- a Node's body

@@ -8,9 +8,10 @@ use native.Mathlib.Omega.{arith}
 use lib.ListN.{length, getD, set}
 use lib.Seq.{set-getD, set-set, set-comm, set-out}
 use Rattle.tlv.specs.Element.{Element}
-use Rattle.lvs_spec.specs.Lists.{isSome, when}
+use Rattle.tlv.specs.Lists.{isSome, when}
 use Rattle.lvs_spec.specs.Limits.{maxTag, bindingWords}
-use Rattle.lvs_spec.specs.Model.{componentOf, theInside, theInteger, valueEdgeOf, patternEdgeOf}
+use Rattle.lvs_spec.specs.Model.{componentOf, valueEdgeOf, patternEdgeOf}
+use Rattle.tlv.specs.Fields.{theInside, theInteger}
 use Rattle.lvs_spec.specs.Names.{Component, same}
 use Rattle.lvs_spec.specs.Types as type
 use Rattle.lvs_spec.specs.Walk.{Bindings, Match, bound, bindTag, crosses, crossValue, crossPattern}

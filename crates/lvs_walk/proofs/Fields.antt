@@ -13,8 +13,9 @@ use Rattle.tlv.specs.Number.{integer}
 use Rattle.tlv.proofs.Cuts.{Step, short-step}
 use Rattle.lvs_spec.proofs.Grammar.{both}
 use Rattle.lvs_spec.specs.Types as type
-use Rattle.lvs_spec.specs.Model.{insides, numberOf, theInside, theInteger, constraintOf, patternEdgeOf}
-use Rattle.lvs_fields.proofs.Elements.{insides-found, insides-other}
+use Rattle.tlv.specs.Fields.{insides, numberOf, theInside, theInteger}
+use Rattle.lvs_spec.specs.Model.{constraintOf, patternEdgeOf}
+use Rattle.tlv.proofs.Gathered.{insides-found, insides-other}
 use Rattle.lvs_constraints.specs.Bindings.{SlotOf, EdgeWith}
 use Rattle.lvs_constraints.specs.declared.Slot.{Slot}
 use Rattle.lvs_walk.specs.Crossing.{plainFields, FieldsOf}

@@ -8,9 +8,10 @@ use native.Mathlib.Omega.{arith}
 use borrow.Author.Tests.{lt-ltb, le-ltb}
 use lib.ListN.{length, take, drop, length-drop}
 use lib.Seq.{length-take-le}
-use Rattle.lvs_spec.specs.Lists.{each, first}
+use Rattle.tlv.specs.Lists.{each, first}
 use Rattle.lvs_spec.specs.Types as type
-use Rattle.lvs_spec.specs.Model.{Model, Node, insides, valueEdgeOf, patternEdgeOf, nodeOf, modelOf}
+use Rattle.lvs_spec.specs.Model.{Model, Node, valueEdgeOf, patternEdgeOf, nodeOf, modelOf}
+use Rattle.tlv.specs.Fields.{insides}
 use Rattle.lvs_spec.specs.Names.{Component}
 use Rattle.lvs_spec.specs.Walk.{Bindings, Match, crossValue, crossPattern, crossings, matches, matchesFrom, lists}
 use Rattle.lvs_spec.proofs.Search.{each-append, each-each}

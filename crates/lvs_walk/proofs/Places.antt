@@ -13,9 +13,9 @@ use Rattle.tlv.specs.declared.Place.{Place}
 use Rattle.tlv.proofs.Cuts.{Step}
 use Rattle.lvs_spec.specs.Limits.{maxNodes}
 use Rattle.lvs_spec.specs.Types as type
-use Rattle.lvs_spec.specs.Model.{insides}
-use Rattle.lvs_fields.specs.declared.Part.{Part}
-use Rattle.lvs_fields.proofs.Elements.{Stop, insides-found, insides-other, insides-stop}
+use Rattle.tlv.specs.Fields.{insides}
+use Rattle.tlv.specs.declared.Part.{Part}
+use Rattle.tlv.proofs.Gathered.{Stop, insides-found, insides-other, insides-stop}
 use Rattle.lvs_walk.specs.Nodes.{nodeInside, BodyFrom, BodyPart, placeWords, noPlaces, partAt, NodesAt}
 use Rattle.lvs_walk.proofs.Bodies.{body-part, no-body}
 

@@ -4,10 +4,11 @@ use mathlib.Core.Path.{_≡_}
 use mathlib.Core.List.{List, []}
 use mathlib.Core.Option.{Option, none, some}
 use lib.ListN.{length, replicate}
-use Rattle.lvs_spec.specs.Lists.{first}
+use Rattle.tlv.specs.Lists.{first}
 use Rattle.lvs_spec.specs.Limits.{maxModelBytes, maxNodes, bindingWords}
 use Rattle.lvs_spec.specs.Types as type
-use Rattle.lvs_spec.specs.Model.{Model, insides}
+use Rattle.lvs_spec.specs.Model.{Model}
+use Rattle.tlv.specs.Fields.{insides}
 use Rattle.lvs_spec.specs.Names.{Component}
 use Rattle.lvs_spec.specs.Walk.{packetMatches, pairs}
 use Rattle.lvs_constraints.specs.Bindings.{bindingsOf}

@@ -6,7 +6,8 @@ use mathlib.Core.List.{List, [], _∷_}
 use lib.Dec.{leb, eqb}
 use lib.ListN.{length, drop, set, getD}
 use Rattle.lvs_spec.specs.Types as type
-use Rattle.lvs_spec.specs.Model.{insides, theInteger, componentOf, valueEdgeOf, patternEdgeOf}
+use Rattle.tlv.specs.Fields.{insides, theInteger}
+use Rattle.lvs_spec.specs.Model.{componentOf, valueEdgeOf, patternEdgeOf}
 use Rattle.lvs_spec.specs.Names.{Component}
 use Rattle.lvs_spec.specs.Walk.{Bindings, Match, crossValue, crossPattern}
 use Rattle.lvs_names.specs.Contents.{Alone}

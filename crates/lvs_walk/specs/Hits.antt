@@ -4,7 +4,7 @@ use mathlib.Core.Path.{_≡_}
 use mathlib.Core.List.{List, [], _∷_}
 use mathlib.Core.Option.{Option, none, some}
 use lib.ListN.{length}
-use Rattle.lvs_spec.specs.Lists.{each, when, first}
+use Rattle.tlv.specs.Lists.{each, when, first}
 use Rattle.lvs_spec.specs.Limits.{maxNameBytes, bindingWords}
 use Rattle.lvs_spec.specs.Model.{Model}
 use Rattle.lvs_spec.specs.Names.{Component}

@@ -7,8 +7,8 @@ use lib.Dec.{eqb, ltb}
 use lib.ListN.{length, take, drop, getD, replicate}
 use Rattle.lvs_spec.specs.Limits.{maxNodes}
 use Rattle.lvs_spec.specs.Types as type
-use Rattle.lvs_spec.specs.Model.{insides}
-use Rattle.lvs_fields.specs.declared.Part.{Part}
+use Rattle.tlv.specs.Fields.{insides}
+use Rattle.tlv.specs.declared.Part.{Part}
 use Rattle.lvs_walk.specs.declared.edges.EdgeRead.{EdgeRead}
 use Rattle.lvs_walk.specs.declared.edges.EdgeRead.the-variants.{Edge, End}
 

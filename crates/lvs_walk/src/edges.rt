@@ -114,8 +114,8 @@ fn pattern_fields(s: &[u8]) -> PatternFields
         };
     }
     PatternFields {
-        dest: lvs_fields::number_in(s, NODE_ID),
-        tag: lvs_fields::number_in(s, TAG),
+        dest: tlv::number_in(s, NODE_ID),
+        tag: tlv::number_in(s, TAG),
         rest: 0,
     }
 }
@@ -149,11 +149,11 @@ fn cross_value(s: &[u8], c: &[u8], slots: &[u32]) -> Crossing
         (crossing false (bindingsOf packet key (now (slots .entry))) (componentAt packet key at (length (now (c .entry)))) (now (s .entry)))
         (now (slots .entry)) r (now (slots .entry))) ⌝ }
 {
-    let part = lvs_fields::inside_of(s, VALUE);
+    let part = tlv::inside_of(s, VALUE);
     let a = part.start;
     let b = part.end;
     if lvs_names::begins_with(&s[a..b], c) {
-        return Crossing::Open(lvs_fields::number_in(s, NODE_ID), saved(slots, 0));
+        return Crossing::Open(tlv::number_in(s, NODE_ID), saved(slots, 0));
     }
     Crossing::Shut
 }

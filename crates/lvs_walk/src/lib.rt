@@ -163,7 +163,7 @@ pub fn find_match(model: &[u8], name: &[u8], from: usize, slots: &mut [u32]) -> 
 {
     let mut places = [0u32; PLACE_WORDS];
     node_places(model, &mut places);
-    let start = lvs_fields::number_in(model, NODE_ID);
+    let start = tlv::number_in(model, NODE_ID);
     walk(
         model,
         &places,
@@ -192,7 +192,7 @@ pub fn find_pair<'a>(
 {
     let mut places = [0u32; PLACE_WORDS];
     node_places(model, &mut places);
-    let start = lvs_fields::number_in(model, NODE_ID);
+    let start = tlv::number_in(model, NODE_ID);
     let mut slots = [0u32; lvs_spec::BINDING_WORDS];
     walk(
         model,

@@ -7,16 +7,17 @@ ghost use mathlib.Core.Bool.{true, false};
 ghost use Prim.Native.Nat.{_+_, _*_, _<_};
 ghost use lib.ListN.{length};
 ghost use Rattle.lvs_spec.specs.Types as type;
-ghost use Rattle.lvs_spec.specs.Lists.{member};
-ghost use Rattle.lvs_spec.specs.Model.{integers, modelOf};
+ghost use Rattle.tlv.specs.Lists.{member};
+ghost use Rattle.tlv.specs.Fields.{integers};
+ghost use Rattle.lvs_spec.specs.Model.{modelOf};
 ghost use Rattle.lvs_spec.specs.Walk.{lists};
 ghost use Rattle.lvs_walk.specs.Nodes.{placeWords, noPlaces, inBody, BodyFrom, partAt, NodesAt};
 ghost use Rattle.lvs_walk.specs.Calls.{Small};
-use lvs_fields::Part;
 use lvs_spec::types::NODE;
 use lvs_spec::types::PATTERN_EDGE;
 use lvs_spec::types::SIGN_CONSTRAINT;
 use lvs_spec::types::VALUE_EDGE;
+use tlv::Part;
 use tlv::Place;
 use tlv::Read;
 
@@ -128,7 +129,7 @@ fn lists_signer(s: &[u8], signer: u64) -> bool
             } => {
                 place = next;
                 if typ == SIGN_CONSTRAINT {
-                    if lvs_fields::number_of(&s[start..end]) == signer {
+                    if tlv::number_of(&s[start..end]) == signer {
                         return true;
                     }
                 }

@@ -4,3 +4,5 @@ pub mod Elements
 pub mod Cuts
 pub mod RoundTrip
 pub mod Sizes
+pub mod Gathered
+pub mod Fields

@@ -3,3 +3,5 @@ pub mod Number
 pub mod Element
 pub mod Reading
 pub mod Spelled
+pub mod Lists
+pub mod Fields

@@ -5,6 +5,7 @@ ghost use Prim.Native.Nat.{_+_, _≤_, _<_};
 ghost use lib.ListN.{length};
 ghost use Rattle.tlv.specs.Bytes.{sameBytes};
 ghost use Rattle.tlv.specs.Number.{width, least, integerSize};
+ghost use Rattle.tlv.specs.Fields.{InsideOf, numberOf, theInteger};
 ghost use Rattle.tlv.specs.Reading.{numberAt, readAt, integerOf};
 ghost use Rattle.tlv.specs.Spelled.{Spelled};
 
@@ -26,6 +27,12 @@ pub enum Read {
     End,
     // Bytes that no element begins with.
     Malformed,
+}
+
+// A part of a slice.
+pub struct Part {
+    pub start: usize,
+    pub end: usize,
 }
 
 pub enum IntegerRead {
@@ -129,6 +136,55 @@ pub fn integer_of(s: &[u8]) -> IntegerRead
     } else {
         IntegerRead::OtherSize
     }
+}
+
+// The inside of the first element of type `typ` in `s`; empty where there is none. The contract says what the part holds, and leaves open
+// where an empty one lies.
+pub fn inside_of(s: &[u8], typ: u32) -> Part
+    ensures { λ r. ⌜ InsideOf (now (s .entry)) typ r ⌝ }
+{
+    let mut place = Place { at: 0 };
+    loop {
+        match place.element(s) {
+            Read::Found {
+                typ: t,
+                start,
+                end,
+                next,
+            } => {
+                if t == typ {
+                    return Part { start, end };
+                }
+                place = next;
+            }
+            Read::End => {
+                return Part { start: 0, end: 0 };
+            }
+            Read::Malformed => {
+                return Part { start: 0, end: 0 };
+            }
+        }
+    }
+}
+
+// The integer that `s` is; 0 where it has another size.
+pub fn number_of(s: &[u8]) -> u64
+    ensures { λ r. ⌜ r ≡ numberOf (now (s .entry)) ⌝ }
+{
+    match integer_of(s) {
+        IntegerRead::Integer(n) => n,
+        IntegerRead::OtherSize => 0,
+    }
+}
+
+// The integer in the first element of type `typ` in `s`; 0 where there is none.
+pub fn number_in(s: &[u8], typ: u32) -> u64
+    ensures { λ r. ⌜ r ≡ theInteger typ (now (s .entry)) ⌝ }
+{
+    let part = inside_of(s, typ);
+    let start = part.start;
+    let end = part.end;
+    number_of(&s[start..end])
 }
 
 // Whether two slices hold the same bytes.

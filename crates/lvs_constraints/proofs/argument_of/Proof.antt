@@ -6,9 +6,10 @@ use Prim.Native.Nat.{_-_}
 use lib.ListN.{length, drop}
 use Rattle.tlv.specs.Element.{cuts}
 use Rattle.tlv.proofs.Cuts.{seen}
-use Rattle.lvs_spec.specs.Lists.{firstOr}
-use Rattle.lvs_spec.specs.Model.{Argument, eachCut, argumentFrom, argumentOf}
-use Rattle.lvs_fields.proofs.Elements.{stop-end, stop-malformed}
+use Rattle.tlv.specs.Lists.{firstOr}
+use Rattle.lvs_spec.specs.Model.{Argument, argumentFrom, argumentOf}
+use Rattle.tlv.specs.Fields.{eachCut}
+use Rattle.tlv.proofs.Gathered.{stop-end, stop-malformed}
 use Rattle.lvs_constraints.proofs.Holds.{argument-value, argument-tag, argument-later, argument-none}
 use Rattle.lvs_constraints.proofs.argument_of.Statement.{statement}
 use Rattle.lvs_constraints.proofs.argument_of.Tie as tie

@@ -5,7 +5,7 @@ use borrow.Author.Needs.{needs}
 use Prim.Native.Nat.{_-_}
 use lib.ListN.{length}
 use Rattle.tlv.proofs.Cuts.{seen}
-use Rattle.lvs_fields.proofs.Elements.{stop-end, stop-malformed}
+use Rattle.tlv.proofs.Gathered.{stop-end, stop-malformed}
 use Rattle.lvs_spec.specs.Model.{componentOf, constraintOf}
 use Rattle.lvs_spec.specs.Walk.{constraintHolds}
 use Rattle.lvs_constraints.specs.Bindings.{bindingsOf}

@@ -6,8 +6,8 @@ use borrow.Author.Tests.{not-true, not-false}
 use Prim.Native.Nat.{_-_}
 use lib.ListN.{length}
 use Rattle.tlv.proofs.Cuts.{seen}
-use Rattle.lvs_fields.proofs.Elements.{stop-end, stop-malformed}
-use Rattle.lvs_spec.specs.Lists.{all}
+use Rattle.tlv.proofs.Gathered.{stop-end, stop-malformed}
+use Rattle.tlv.specs.Lists.{all}
 use Rattle.lvs_spec.specs.Model.{componentOf, patternEdgeOf}
 use Rattle.lvs_spec.specs.Walk.{constraintHolds}
 use Rattle.lvs_constraints.specs.Bindings.{bindingsOf}

@@ -6,9 +6,10 @@ use Prim.Native.Nat.{_-_}
 use lib.ListN.{length, drop}
 use Rattle.tlv.specs.Element.{cuts}
 use Rattle.tlv.proofs.Cuts.{seen}
-use Rattle.lvs_fields.proofs.Elements.{stop-end, stop-malformed}
-use Rattle.lvs_spec.specs.Lists.{any}
-use Rattle.lvs_spec.specs.Model.{componentOf, eachCut, termFrom, optionOf}
+use Rattle.tlv.proofs.Gathered.{stop-end, stop-malformed}
+use Rattle.tlv.specs.Lists.{any}
+use Rattle.lvs_spec.specs.Model.{componentOf, termFrom, optionOf}
+use Rattle.tlv.specs.Fields.{eachCut}
 use Rattle.lvs_spec.specs.Walk.{termHolds, optionHolds}
 use Rattle.lvs_constraints.specs.Bindings.{bindingsOf}
 use Rattle.lvs_constraints.proofs.Holds.{option-here, option-later, option-none}

@@ -8,7 +8,7 @@ use lib.ListN.{length, length-take, length-drop}
 use borrow.Fn.Kinds.{In, Out}
 use borrow.Fn.PlainCycle.{Measures, is, falls, and}
 use Rattle.tlv.proofs.Cuts.{seen}
-use Rattle.lvs_fields.proofs.Elements.{stop-end, stop-malformed}
+use Rattle.tlv.proofs.Gathered.{stop-end, stop-malformed}
 use Rattle.lvs_rules.specs.Sorts.{typeOf, itemRule}
 use Rattle.lvs_rules.proofs.Loops.{Sweeping, none-swept, sweep-found, sweep-passed, swept}
 use Rattle.lvs_rules.proofs.Items.{argument-item, call-item, tag-item, option-item, constraint-item, value-edge-item, pattern-edge-item, signer-item, symbol-item}
@@ -18,8 +18,8 @@ use Rattle.lvs_rules.proofs.+item_rule+sweep.Lts-item_rule as item-rule
 use Rattle.lvs_rules.proofs.sweep.Reads as sweep
 use Rattle.lvs_rules.proofs.sweep.Kinds as sweep-kinds
 use Rattle.lvs_rules.proofs.+item_rule+sweep.Lts-sweep as sweep-lts
-use Rattle.lvs_fields.proofs.number_in.Reads as number-in-reads
-use Rattle.lvs_fields.proofs.number_of.Reads as number-of-reads
+use Rattle.tlv.proofs.number_in.Reads as number-in-reads
+use Rattle.tlv.proofs.number_of.Reads as number-of-reads
 use Rattle.lvs_rules.proofs.options.argument_rule.Reads as argument-rule-reads
 use Rattle.lvs_rules.proofs.options.arguments_rule.Reads as arguments-rule-reads
 use Rattle.lvs_rules.proofs.numbers.destination_rule.Reads as destination-rule-reads

@@ -5,7 +5,7 @@ use lib.ListN.{length}
 use Rattle.tlv.proofs.Cuts.{seen}
 use Rattle.lvs_spec.specs.Model.{nodeOf}
 use Rattle.lvs_rules.specs.Lowest.{nodeRule}
-use Rattle.lvs_fields.proofs.Elements.{stop-end, stop-malformed}
+use Rattle.tlv.proofs.Gathered.{stop-end, stop-malformed}
 use Rattle.lvs_rules.proofs.Loops.{Scanning, none-scanned, node-index, node-scanned, node-passed, all-scanned}
 use borrow.Author.Needs.{needs}
 use Rattle.lvs_rules.proofs.lowest_fault.Statement.{statement}

@@ -5,7 +5,7 @@ use mathlib.Core.Path.{_≡_, sym, _∙_}
 use native.Mathlib.Omega.{arith}
 use borrow.Author.Tests.{not-true, not-false}
 use lib.ListN.{length, drop}
-use Rattle.lvs_spec.specs.Lists.{all}
+use Rattle.tlv.specs.Lists.{all}
 use Rattle.lvs_spec.specs.Leaves.{letterOrDigit, identifier}
 use Rattle.lvs_grammar.proofs.PlainBytes.{identifier-empty, identifier-first, identifier-rest, all-stops, all-goes-on, all-ends}
 use Rattle.lvs_grammar.proofs.leaves.is_identifier.Statement.{statement}

@@ -6,7 +6,7 @@ use Rattle.lvs_rules.specs.Lowest.{tagRule}
 use lib.ListN.{length}
 use Rattle.tlv.proofs.Cuts.{seen}
 use Rattle.lvs_spec.specs.Model.{argumentFrom}
-use Rattle.lvs_fields.proofs.Elements.{Searching, stop-end, stop-malformed}
+use Rattle.tlv.proofs.Gathered.{Searching, stop-end, stop-malformed}
 use Rattle.lvs_rules.proofs.Loops.{value-first, tag-first, no-argument, argument-none}
 use borrow.Author.Needs.{needs}
 use Rattle.lvs_rules.proofs.options.argument_rule.Statement.{statement}

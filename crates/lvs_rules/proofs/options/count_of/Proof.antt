@@ -4,8 +4,8 @@ use Prim.Native.Nat.{_-_}
 use mathlib.Core.Path.{ap}
 use lib.ListN.{length}
 use Rattle.tlv.proofs.Cuts.{seen}
-use Rattle.lvs_spec.specs.Model.{insideOf, insides}
-use Rattle.lvs_fields.proofs.Elements.{stop-end, stop-malformed, inside-taken, inside-passed}
+use Rattle.tlv.specs.Fields.{insideOf, insides}
+use Rattle.tlv.proofs.Gathered.{stop-end, stop-malformed, inside-taken, inside-passed}
 use Rattle.lvs_rules.proofs.Loops.{Counting, none-counted, one-more, no-more, counted}
 use borrow.Author.Needs.{needs}
 use Rattle.lvs_rules.proofs.options.count_of.Statement.{statement}

@@ -4,7 +4,7 @@ use Prim.Native.Nat.{_-_}
 use lib.ListN.{length}
 use Rattle.tlv.proofs.Cuts.{seen}
 use Rattle.lvs_spec.specs.Model.{termFrom, optionOf}
-use Rattle.lvs_fields.proofs.Elements.{stop-end, stop-malformed}
+use Rattle.tlv.proofs.Gathered.{stop-end, stop-malformed}
 use Rattle.lvs_rules.proofs.Loops.{Counting, none-counted, one-more, no-more, counted, term, no-term}
 use borrow.Author.Needs.{needs}
 use Rattle.lvs_rules.proofs.options.term_count.Statement.{statement}

@@ -4,9 +4,9 @@ use Prim.Native.Nat.{_-_}
 use mathlib.Core.Path.{refl}
 use lib.ListN.{length}
 use Rattle.tlv.proofs.Cuts.{seen}
-use Rattle.lvs_spec.specs.Model.{insideOf}
+use Rattle.tlv.specs.Fields.{insideOf}
 use Rattle.lvs_spec.specs.Types as type
-use Rattle.lvs_fields.proofs.Elements.{Searching, search-on, stop-end, stop-malformed, inside-passed}
+use Rattle.tlv.proofs.Gathered.{Searching, search-on, stop-end, stop-malformed, inside-passed}
 use Rattle.lvs_rules.proofs.Loops.{parent-first, parent-none}
 use borrow.Author.Needs.{needs}
 use Rattle.lvs_rules.proofs.parents.parent_of.Statement.{statement}

@@ -4,7 +4,7 @@ use Prim.Native.Nat.{_-_}
 use mathlib.Core.Path.{refl}
 use lib.ListN.{length}
 use Rattle.tlv.proofs.Cuts.{seen}
-use Rattle.lvs_fields.proofs.Elements.{stop-end, stop-malformed}
+use Rattle.tlv.proofs.Gathered.{stop-end, stop-malformed}
 use Rattle.lvs_rules.proofs.Loops.{Filling, none-filled, room, parent-filled, parent-passed, all-filled}
 use borrow.Author.Needs.{needs}
 use Rattle.lvs_rules.proofs.parents.parents_of.Statement.{statement}

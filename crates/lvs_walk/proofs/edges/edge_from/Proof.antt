@@ -5,8 +5,8 @@ use borrow.Author.Needs.{needs}
 use Prim.Native.Nat.{_-_, _≤_}
 use lib.ListN.{length, drop}
 use Rattle.tlv.proofs.Cuts.{seen}
-use Rattle.lvs_fields.proofs.Elements.{stop-end, stop-malformed}
-use Rattle.lvs_spec.specs.Model.{insides}
+use Rattle.tlv.proofs.Gathered.{stop-end, stop-malformed}
+use Rattle.tlv.specs.Fields.{insides}
 use Rattle.lvs_walk.specs.Crossing.{edgeType}
 use Rattle.lvs_walk.proofs.Bodies.{edge-here, edge-later, edge-none}
 use Rattle.lvs_walk.proofs.edges.edge_from.Statement.{statement}

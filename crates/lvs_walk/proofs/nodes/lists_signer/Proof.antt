@@ -5,10 +5,10 @@ use borrow.Author.Needs.{needs}
 use Prim.Native.Nat.{_-_}
 use lib.ListN.{length}
 use Rattle.tlv.proofs.Cuts.{seen}
-use Rattle.lvs_fields.proofs.Elements.{stop-end, stop-malformed}
-use Rattle.lvs_spec.specs.Lists.{member}
+use Rattle.tlv.proofs.Gathered.{stop-end, stop-malformed}
+use Rattle.tlv.specs.Lists.{member}
 use Rattle.lvs_spec.specs.Types as type
-use Rattle.lvs_spec.specs.Model.{integers}
+use Rattle.tlv.specs.Fields.{integers}
 use Rattle.lvs_walk.proofs.Bodies.{listedFrom, signer-other, signer-here, signer-later, signer-none}
 use Rattle.lvs_walk.proofs.nodes.lists_signer.Statement.{statement}
 use Rattle.lvs_walk.proofs.nodes.lists_signer.Tie as tie

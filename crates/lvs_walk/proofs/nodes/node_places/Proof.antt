@@ -5,7 +5,7 @@ use mathlib.Core.Path.{sym, ap, _∙_}
 use native.Mathlib.Omega.{arith}
 use lib.ListN.{length, length-set}
 use Rattle.tlv.proofs.Cuts.{seen}
-use Rattle.lvs_fields.proofs.Elements.{stop-end, stop-malformed}
+use Rattle.tlv.proofs.Gathered.{stop-end, stop-malformed}
 use Rattle.lvs_walk.specs.Nodes.{placeWords}
 use Rattle.lvs_walk.proofs.Places.{Filled, filled-first, filled-other, filled-node, filled-all, more, body-low}
 use Rattle.lvs_walk.proofs.nodes.node_places.Statement.{statement}

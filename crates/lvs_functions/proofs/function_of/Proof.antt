@@ -1,9 +1,9 @@
--- `lvs_fields::function_of` meets its contract: each comparison is a step of `functionIn`. Assumes nothing.
+-- `lvs_functions::function_of` meets its contract: each comparison is a step of `functionIn`. Assumes nothing.
 use borrow.Author.Needs.{needs}
 use mathlib.Core.Path.{sym, _∙_}
-use Rattle.lvs_fields.proofs.Fields.{is-eq, is-eq-type, is-id, is-year, is-unknown}
-use Rattle.lvs_fields.proofs.function_of.Statement.{statement}
-use Rattle.lvs_fields.proofs.function_of.Tie as tie
+use Rattle.lvs_functions.proofs.Functions.{is-eq, is-eq-type, is-id, is-year, is-unknown}
+use Rattle.lvs_functions.proofs.function_of.Statement.{statement}
+use Rattle.lvs_functions.proofs.function_of.Tie as tie
 
 slice-aggregate-same-bytes : tie.Need-slice-aggregate-same-bytes
 slice-aggregate-same-bytes c = search needs

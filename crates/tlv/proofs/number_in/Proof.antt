@@ -1,8 +1,8 @@
--- `lvs_fields::number_in` meets its contract. Assumes nothing.
+-- `tlv::number_in` meets its contract. Assumes nothing.
 use borrow.Author.Needs.{needs}
-use Rattle.lvs_fields.proofs.Fields.{number-inside}
-use Rattle.lvs_fields.proofs.number_in.Statement.{statement}
-use Rattle.lvs_fields.proofs.number_in.Tie as tie
+use Rattle.tlv.proofs.Fields.{number-inside}
+use Rattle.tlv.proofs.number_in.Statement.{statement}
+use Rattle.tlv.proofs.number_in.Tie as tie
 
 inside-of-requires : tie.Need-inside-of-requires
 inside-of-requires c κs = search needs

@@ -1,8 +1,8 @@
--- `lvs_fields::number_of` meets its contract. Assumes nothing.
+-- `tlv::number_of` meets its contract. Assumes nothing.
 use borrow.Author.Needs.{needs}
-use Rattle.lvs_fields.proofs.Fields.{number-read, number-other}
-use Rattle.lvs_fields.proofs.number_of.Statement.{statement}
-use Rattle.lvs_fields.proofs.number_of.Tie as tie
+use Rattle.tlv.proofs.Fields.{number-read, number-other}
+use Rattle.tlv.proofs.number_of.Statement.{statement}
+use Rattle.tlv.proofs.number_of.Tie as tie
 
 integer-of-requires : tie.Need-integer-of-requires
 integer-of-requires c κs = search needs

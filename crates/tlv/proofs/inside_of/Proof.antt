@@ -1,24 +1,24 @@
--- `lvs_fields::inside_of` meets its contract. The invariant: the search from here on finds what it finds in the whole. Assumes nothing.
+-- `tlv::inside_of` meets its contract. The invariant: no element before the place has the type. Assumes nothing.
 use borrow.Author.Needs.{needs}
 use native.Mathlib.Omega.{arith}
-use mathlib.Core.Path.{refl}
+use mathlib.Core.List.{[]}
 use Prim.Native.Nat.{_-_}
 use lib.ListN.{length}
+use Rattle.tlv.specs.Fields.{insides}
 use Rattle.tlv.proofs.Cuts.{seen}
-use Rattle.lvs_spec.specs.Model.{insideOf}
-use Rattle.lvs_fields.proofs.Elements.{Searching, search-on, stop-end, stop-malformed, inside-passed}
-use Rattle.lvs_fields.proofs.Fields.{inside-here, inside-none}
-use Rattle.lvs_fields.proofs.inside_of.Statement.{statement}
-use Rattle.lvs_fields.proofs.inside_of.Tie as tie
+use Rattle.tlv.proofs.Gathered.{stop-end, stop-malformed, insides-other, Gathered, listed, started, passed}
+use Rattle.tlv.proofs.Fields.{inside-here, inside-none}
+use Rattle.tlv.proofs.inside_of.Statement.{statement}
+use Rattle.tlv.proofs.inside_of.Tie as tie
 
 abbrev Inv-loop : tie.InvT-loop
-Inv-loop s typ place₀ place = Searching (insideOf typ) s (place .at)
+Inv-loop s typ place₀ place = Gathered listed (insides typ) s (place .at) []
 
 abbrev μ-loop : tie.MeasureT-loop
 μ-loop s typ place₀ place = length s - place .at
 
 loop-holds : tie.Need-loop-holds Inv-loop μ-loop
-loop-holds c = record { same = refl }
+loop-holds c = started
 
 element-requires : tie.Need-element-requires Inv-loop μ-loop
 element-requires c κs = search needs
@@ -33,7 +33,7 @@ loop-less : tie.Need-loop-less Inv-loop μ-loop
 loop-less c = omega (arith, seen _ _ (c .before .before .before .before .element .ensures) (c .before .before .t .given .1))
 
 loop-again : tie.Need-loop-again Inv-loop μ-loop
-loop-again c = search-on (c .before .before .before .before .before .loop .inv) (seen _ _ (c .before .before .before .before .element .ensures) (c .before .before .t .given .1)) (inside-passed _ (c .if1 .left))
+loop-again c = passed (c .before .before .before .before .before .loop .inv) (insides-other _ (seen _ _ (c .before .before .before .before .element .ensures) (c .before .before .t .given .1)) (c .if1 .left))
 
 enum-told : tie.Need-enum-told Inv-loop μ-loop
 enum-told c = search needs
