@@ -7,7 +7,7 @@ use mathlib.Core.Option.{Option, none, some}
 use Prim.Native.Nat.{ℕ, suc, _+_, _≤_, _<_}
 use native.Mathlib.Nat.{le-refl}
 use native.Mathlib.Omega.{arith}
-use borrow.Author.Tests.{lt-ltb, le-ltb, ne-eqb, ltb-false}
+use borrow.Author.Tests.{lt-ltb, le-ltb, ne-eqb, ltb-true, ltb-false}
 use lib.Dec.{ltb, eqb}
 use lib.ListN.{length}
 use Rattle.tlv.proofs.Gathered.{any-append}
@@ -15,7 +15,7 @@ use Rattle.tlv.specs.Lists.{any, each}
 use Rattle.lvs_spec.specs.Model.{Model, Node, Symbol}
 use Rattle.lvs_spec.specs.Verdict.{Test, whole, someTag, someNode, someDestination, someSigner, someOption, someCall, Verdict, refused, fault, decide, somewhere, firstFault, tags, nodeTags, destinations, options, calls}
 use Rattle.lvs_rules.specs.Lowest.{noRule}
-use Rattle.lvs_rules.specs.Faults.{earlier, lowestFrom, lowest, named, verdictOf}
+use Rattle.lvs_rules.specs.Faults.{earlier, lowestFrom, noFault, lowest, named, verdictOf}
 use Rattle.lvs_rules.specs.declared.Fault.{Fault}
 use Rattle.lvs_rules.proofs.Rows.{asks, Row, Fits, no-row, row, firstRow, row-least, fits-most, failsAt, failsOutside}
 
@@ -72,11 +72,42 @@ node-more i n ns (row {k} {r} {t} {rs} h e hs) =
     (there-least (suc i) ns hs)
     (node-more i n ns hs)
 
-one-pass : (i : ℕ) (ns : List Node) {k : ℕ} {rs : List Row} → Fits k rs
-    → lowestFrom (λ i n. firstRow (λ a. failsAt a i n) rs) i ns ≡ firstThere i ns rs
+-- ---- the pass keeps the earlier of two faults
+
+earlier-assoc : (a b c : Fault) → earlier (earlier a b) c ≡ earlier a (earlier b c)
+unfolding earlier
+earlier-assoc a b c = go (ltb (b .rule) (a .rule)) refl (ltb (c .rule) (b .rule)) refl
+  where
+    go : (p : Bool) → ltb (b .rule) (a .rule) ≡ p → (q : Bool) → ltb (c .rule) (b .rule) ≡ q → earlier (cond p b a) c ≡ earlier a (cond q c b)
+    go true p true q =
+        let h = ltb-true (b .rule) (a .rule) p in
+        let k = ltb-true (c .rule) (b .rule) q in
+        rw (q, lt-ltb (c .rule) (a .rule) (omega arith))
+    go true p false q = rw (q, p)
+    go false p true q = refl
+    go false p false q =
+        let h = ltb-false (b .rule) (a .rule) p in
+        let k = ltb-false (c .rule) (b .rule) q in
+        rw (p, le-ltb (c .rule) (a .rule) (omega arith))
+
+earlier-most : (a b : Fault) → a .rule ≤ noRule → earlier a b .rule ≤ noRule
+unfolding earlier
+earlier-most a b h = go (ltb (b .rule) (a .rule)) refl
+  where
+    go : (t : Bool) → ltb (b .rule) (a .rule) ≡ t → (cond t b a) .rule ≤ noRule
+    go true q = let l = ltb-true (b .rule) (a .rule) q in omega arith
+    go false q = h
+
+earlier-none : (a : Fault) (i : ℕ) → a .rule ≤ noRule → earlier a (record { rule = noRule; node = i }) ≡ a
+unfolding earlier
+earlier-none a i h = rw (le-ltb noRule (a .rule) h)
+
+one-pass : {k : ℕ} {rs : List Row} → Fits k rs → (a : Fault) → a .rule ≤ noRule → (i : ℕ) (ns : List Node)
+    → lowestFrom (λ i n. firstRow (λ a. failsAt a i n) rs) a i ns ≡ earlier a (firstThere i ns rs)
 unfolding lowestFrom
-one-pass i [] fits = sym (no-nodes i fits)
-one-pass i (n ∷ ns) fits = rw (one-pass (suc i) ns fits) (node-more i n ns fits)
+one-pass fits a h i [] = sym (rw (no-nodes i fits) (earlier-none a i h))
+one-pass fits a h i (n ∷ ns) =
+    one-pass fits _ (earlier-most a _ h) (suc i) ns ∙ earlier-assoc a _ _ ∙ ap (earlier a) (node-more i n ns fits)
 
 -- ---- a rule's fault, from what its test finds in the Nodes and outside of them
 
@@ -186,11 +217,11 @@ decided m (row {k} {r} {t} {rs} h e hs) =
     rule-decides r (inNodes m t) (failsOutside m (asks t)) _ _ _ (there-least 0 (m .nodes) hs) (row-least (failsOutside m) hs) (fits-most hs) (decided m hs)
 
 -- the pass starts with no fault
-from-none : (x : Fault) (outside count : ℕ) → x .rule ≤ noRule → verdictOf x outside count ≡ verdictOf (earlier (record { rule = noRule; node = 0 }) x) outside count
+from-none : (x : Fault) (outside count : ℕ) → x .rule ≤ noRule → verdictOf x outside count ≡ verdictOf (earlier noFault x) outside count
 unfolding verdictOf earlier named
 from-none x outside count h = go (ltb (x .rule) noRule) refl
   where
-    go : (b : Bool) → ltb (x .rule) noRule ≡ b → verdictOf x outside count ≡ verdictOf (cond b x (record { rule = noRule; node = 0 })) outside count
+    go : (b : Bool) → ltb (x .rule) noRule ≡ b → verdictOf x outside count ≡ verdictOf (cond b x noFault) outside count
     go true q = refl
     go false q =
         let l : noRule ≤ x .rule = ltb-false (x .rule) noRule q in
@@ -198,10 +229,10 @@ from-none x outside count h = go (ltb (x .rule) noRule) refl
         rw e
 
 module _ {f g : ℕ → Node → ℕ} (b : ℕ) (same : (i : ℕ) → i < b → (n : Node) → f i n ≡ g i n) where
-  pass-same : (i : ℕ) (ns : List Node) → i + length ns ≤ b → lowestFrom f i ns ≡ lowestFrom g i ns
+  pass-same : (a : Fault) (i : ℕ) (ns : List Node) → i + length ns ≤ b → lowestFrom f a i ns ≡ lowestFrom g a i ns
   unfolding lowestFrom
-  pass-same i [] h = refl
-  pass-same i (n ∷ ns) h = rw (same i (omega arith) n, pass-same (suc i) ns (omega arith))
+  pass-same a i [] h = refl
+  pass-same a i (n ∷ ns) h = rw (same i (omega arith) n) (pass-same _ (suc i) ns (omega arith))
 
 -- the verdict by a table, from the lowest rule that each Node breaks and the lowest that is broken outside of the Nodes
 pub decided-by : (m : Model) {k : ℕ} {rs : List Row} → Fits k rs → (f : ℕ → Node → ℕ) (outside : ℕ)
@@ -210,5 +241,5 @@ pub decided-by : (m : Model) {k : ℕ} {rs : List Row} → Fits k rs → (f : �
 unfolding lowest
 decided-by m {rs = rs} fits f outside same e =
     let ns = m .nodes in
-    rw (e, pass-same (length ns) same 0 ns (omega arith), one-pass 0 ns fits)
+    rw (e, pass-same (length ns) same noFault 0 ns (omega arith), one-pass fits noFault (le-refl noRule) 0 ns)
     (decided m fits ∙ from-none (firstThere 0 ns rs) (firstRow (failsOutside m) rs) (length ns) (there-most 0 ns fits))

@@ -12,16 +12,17 @@ use Rattle.lvs_spec.specs.Model.{nodeOf, symbolOf, modelOf}
 use Rattle.lvs_spec.specs.Verdict.{Verdict, refused, judge, namesNone}
 use Rattle.lvs_rules.specs.Lowest.{broken, leastOf, nodeRule, parentIndex, symbolRule}
 use Rattle.lvs_rules.specs.Sorts.{typeOf, itemRule}
-use Rattle.lvs_rules.specs.Faults.{lowestFrom, lowest, verdictOf}
+use Rattle.lvs_rules.specs.Faults.{lowestFrom, noFault, lowest, verdictOf}
 use Rattle.lvs_rules.specs.declared.Fault.{Fault}
 use Rattle.lvs_rules.specs.declared.Sort.the-variants as sort
 use Rattle.lvs_rules.proofs.Least.{least-map}
 use Rattle.lvs_rules.proofs.Verdict.{judge-few, judge-many}
 
-lowest-map : {A B : Type 0} (f : ℕ → B → ℕ) (h : A → B) (i : ℕ) (xs : List A) → lowestFrom f i (map h xs) ≡ lowestFrom (λ i x. f i (h x)) i xs
+lowest-map : {A B : Type 0} (f : ℕ → B → ℕ) (h : A → B) (a : Fault) (i : ℕ) (xs : List A)
+    → lowestFrom f a i (map h xs) ≡ lowestFrom (λ i x. f i (h x)) a i xs
 unfolding lowestFrom
-lowest-map f h i [] = refl
-lowest-map f h i (x ∷ xs) = rw (lowest-map f h (suc i) xs)
+lowest-map f h a i [] = refl
+lowest-map f h a i (x ∷ xs) = lowest-map f h _ (suc i) xs
 
 module _ (s : List ℕ) {n : ℕ} (count : n ≡ length (insides type.Node s)) where
   node-count : length (modelOf s .nodes) ≡ n
@@ -41,7 +42,7 @@ module _ (s : List ℕ) {n : ℕ} (count : n ≡ length (insides type.Node s)) w
 
     nodes-fault : lowest (nodeRule (take n all)) (modelOf s .nodes) ≡ lowest (λ i b. nodeRule (take n all) i (nodeOf b)) (insides type.Node s)
     unfolding modelOf lowest
-    nodes-fault = rw (lowest-map (nodeRule (take n all)) nodeOf 0 (insides type.Node s))
+    nodes-fault = lowest-map (nodeRule (take n all)) nodeOf noFault 0 (insides type.Node s)
 
     symbols-rule : leastOf symbolRule (modelOf s .symbols) ≡ leastOf (itemRule (take n all) 0 sort.Symbol) (insides (typeOf sort.Symbol) s)
     unfolding modelOf itemRule typeOf

@@ -20,40 +20,82 @@ loop-holds : tie.Need-loop-holds Inv-loop μ-loop
 loop-holds c = none-filled _ _ refl
 
 sub-parent-of : tie.Need-sub-parent-of Inv-loop μ-loop
-sub-parent-of c = omega (arith, seen _ _ (c .before .before .before .before .element .ensures) (c .before .before .typ .given .1))
+sub-parent-of c =
+    let turn = c .before .before in
+    let step = seen _ _ (turn .before .before .element .ensures) (turn .typ .given .1) in
+    omega (arith, step)
 
 part-parent-of-start : tie.Need-part-parent-of-start Inv-loop μ-loop
-part-parent-of-start c = omega (arith, seen _ _ (c .before .before .before .before .element .ensures) (c .before .before .typ .given .1))
+part-parent-of-start c =
+    let turn = c .before .before in
+    let step = seen _ _ (turn .before .before .element .ensures) (turn .typ .given .1) in
+    omega (arith, step)
 
 part-parent-of-end : tie.Need-part-parent-of-end Inv-loop μ-loop
-part-parent-of-end c = omega (arith, seen _ _ (c .before .before .before .before .element .ensures) (c .before .before .typ .given .1))
+part-parent-of-end c =
+    let turn = c .before .before in
+    let step = seen _ _ (turn .before .before .element .ensures) (turn .typ .given .1) in
+    omega (arith, step)
 
 mul-parents : tie.Need-mul-parents Inv-loop μ-loop
-mul-parents c = omega (arith, room (c .before .before .before .before .before .before .before .before .before .pre) (c .before .before .before .before .before .before .before .loop .inv) (seen _ _ (c .before .before .before .before .before .before .element .ensures) (c .before .before .before .before .typ .given .1)) (c .before .before .if1 .taken))
+mul-parents c =
+    let node = c .before .before in
+    let turn = node .before .before in
+    let step = seen _ _ (turn .before .before .element .ensures) (turn .typ .given .1) in
+    let loop = turn .before .before .before in
+    omega (arith, room (loop .before .before .pre) (loop .loop .inv) step (node .if1 .taken))
 
 array-write-parents : tie.Need-array-write-parents Inv-loop μ-loop
-array-write-parents c = omega (arith, room (c .before .before .before .before .before .before .before .before .before .pre) (c .before .before .before .before .before .before .before .loop .inv) (seen _ _ (c .before .before .before .before .before .before .element .ensures) (c .before .before .before .before .typ .given .1)) (c .before .before .if1 .taken), c .before .before .before .before .before .before .before .loop .inv .size)
+array-write-parents c =
+    let node = c .before .before in
+    let turn = node .before .before in
+    let step = seen _ _ (turn .before .before .element .ensures) (turn .typ .given .1) in
+    let loop = turn .before .before .before in
+    omega (arith, room (loop .before .before .pre) (loop .loop .inv) step (node .if1 .taken), loop .loop .inv .size)
 
 add-n : tie.Need-add-n Inv-loop μ-loop
-add-n c = omega (arith, room (c .before .before .before .before .before .before .before .before .before .pre) (c .before .before .before .before .before .before .before .loop .inv) (seen _ _ (c .before .before .before .before .before .before .element .ensures) (c .before .before .before .before .typ .given .1)) (c .before .before .if1 .taken))
+add-n c =
+    let node = c .before .before in
+    let turn = node .before .before in
+    let step = seen _ _ (turn .before .before .element .ensures) (turn .typ .given .1) in
+    let loop = turn .before .before .before in
+    omega (arith, room (loop .before .before .pre) (loop .loop .inv) step (node .if1 .taken))
 
 loop-less : tie.Need-loop-less Inv-loop μ-loop
-loop-less c = omega (arith, seen _ _ (c .before .before .before .before .before .before .element .ensures) (c .before .before .before .before .typ .given .1))
+loop-less c =
+    let turn = c .before .before .before .before in
+    omega (arith, seen _ _ (turn .before .before .element .ensures) (turn .typ .given .1))
 
 loop-again : tie.Need-loop-again Inv-loop μ-loop
-loop-again c = parent-filled (c .before .before .before .before .before .before .before .before .before .pre) (c .before .before .before .before .before .before .before .loop .inv) (seen _ _ (c .before .before .before .before .before .before .element .ensures) (c .before .before .before .before .typ .given .1)) (c .before .before .if1 .taken) (c .parent-of .ensures)
+loop-again c =
+    let node = c .before .before in
+    let turn = node .before .before in
+    let step = seen _ _ (turn .before .before .element .ensures) (turn .typ .given .1) in
+    let loop = turn .before .before .before in
+    parent-filled (loop .before .before .pre) (loop .loop .inv) step (node .if1 .taken) (c .parent-of .ensures)
 
 loop-less-2 : tie.Need-loop-less-2 Inv-loop μ-loop
-loop-less-2 c = omega (arith, seen _ _ (c .before .before .before .before .element .ensures) (c .before .before .typ .given .1))
+loop-less-2 c =
+    let turn = c .before .before in
+    let step = seen _ _ (turn .before .before .element .ensures) (turn .typ .given .1) in
+    omega (arith, step)
 
 loop-again-2 : tie.Need-loop-again-2 Inv-loop μ-loop
-loop-again-2 c = parent-passed (c .before .before .before .before .before .before .before .pre) (c .before .before .before .before .before .loop .inv) (seen _ _ (c .before .before .before .before .element .ensures) (c .before .before .typ .given .1)) (c .if1 .left)
+loop-again-2 c =
+    let turn = c .before .before in
+    let step = seen _ _ (turn .before .before .element .ensures) (turn .typ .given .1) in
+    let loop = turn .before .before .before in
+    parent-passed (loop .before .before .pre) (loop .loop .inv) step (c .if1 .left)
 
 returns : tie.Need-returns Inv-loop μ-loop
-returns c = all-filled (c .before .before .before .before .before .pre) (c .before .before .before .loop .inv) (stop-end _ _ (c .before .before .element .ensures) (c .enum-told .given .1))
+returns c =
+    let loop = c .before .before .before in
+    all-filled (loop .before .before .pre) (loop .loop .inv) (stop-end _ _ (c .before .before .element .ensures) (c .enum-told .given .1))
 
 returns-2 : tie.Need-returns-2 Inv-loop μ-loop
-returns-2 c = all-filled (c .before .before .before .before .before .pre) (c .before .before .before .loop .inv) (stop-malformed _ _ (c .before .before .element .ensures) (c .enum-told2 .given .1))
+returns-2 c =
+    let loop = c .before .before .before in
+    all-filled (loop .before .before .pre) (loop .loop .inv) (stop-malformed _ _ (c .before .before .element .ensures) (c .enum-told2 .given .1))
 
 pub parents-of-spec : {M : Type 1} → statement M
 parents-of-spec =
