@@ -139,8 +139,19 @@ module _ (parents : List ℕ) (i : ℕ) (b : List ℕ) where
     unfolding itemRule symbolRule symbolOf
     symbol-item e f h = rw (e, h, f)
 
-  pub node-item : {d id v p s x y r : ℕ} → d ≡ theInteger type.NodeId b → id ≡ broken 6 (not (eqb d i)) → v ≡ swept sort.ValueEdge → p ≡ swept sort.PatternEdge → s ≡ swept sort.Signer
-      → x ≡ min p s → y ≡ min v x → r ≡ min id y → r ≡ nodeRule parents i (nodeOf b)
-  unfolding itemRule typeOf nodeRule ownRule nodeOf integers
-  node-item fd fid fv fp fs fx fy h =
-      rw (h, fid, fd, fy, fv, fx, fp, fs, least-map (valueEdgeRule parents i) valueEdgeOf (insides type.ValueEdge b), least-map (patternEdgeRule parents i) patternEdgeOf (insides type.PatternEdge b), least-map (signerRule parents) numberOf (insides type.SignConstraint b))
+  pub node-item : {own v p s x y r : ℕ} → own ≡ ownRule i (nodeOf b) → v ≡ swept sort.ValueEdge → p ≡ swept sort.PatternEdge → s ≡ swept sort.Signer
+      → x ≡ min p s → y ≡ min v x → r ≡ min own y → r ≡ nodeRule parents i (nodeOf b)
+  unfolding itemRule typeOf nodeRule nodeOf integers
+  node-item fo fv fp fs fx fy h =
+      rw (
+        h,
+        fo,
+        fy,
+        fv,
+        fx,
+        fp,
+        fs,
+        least-map (valueEdgeRule parents i) valueEdgeOf (insides type.ValueEdge b),
+        least-map (patternEdgeRule parents i) patternEdgeOf (insides type.PatternEdge b),
+        least-map (signerRule parents) numberOf (insides type.SignConstraint b),
+      )

@@ -18,7 +18,7 @@ use lvs_spec::types::USER_FN_CALL;
 use lvs_spec::types::VALUE_EDGE;
 use numbers::NO_RULE;
 use numbers::destination_rule;
-use numbers::id_rule;
+use numbers::own_rule;
 use numbers::signer_rule;
 use numbers::start_rule;
 use numbers::tag_rule;
@@ -154,11 +154,11 @@ fn earlier(a: Fault, b: Fault) -> Fault
 fn node_rule(node: &[u8], i: u32, parents: &[u32]) -> u32
     ensures { λ r. ⌜ r ≡ nodeRule (now (parents .entry)) i (nodeOf (now (node .entry))) ⌝ }
 {
-    let id = id_rule(tlv::number_in(node, NODE_ID), i);
+    let own = own_rule(node, i);
     let values = sweep(node, Sort::ValueEdge, i, parents);
     let patterns = sweep(node, Sort::PatternEdge, i, parents);
     let signers = sweep(node, Sort::Signer, i, parents);
-    lower(id, lower(values, lower(patterns, signers)))
+    lower(own, lower(values, lower(patterns, signers)))
 }
 
 // The lowest rule that the elements of one sort in `s` break.

@@ -1,11 +1,11 @@
 // The rules that ask something of one number: 5 to 9 and 11.
 ghost use mathlib.Core.Path.{_≡_};
-ghost use mathlib.Core.Bool.{not};
 ghost use Prim.Native.Nat.{_<_};
-ghost use lib.Dec.{leb, eqb};
+ghost use lib.Dec.{leb};
 ghost use Rattle.tlv.specs.Fields.{theInteger};
+ghost use Rattle.lvs_spec.specs.Model.{nodeOf};
 ghost use Rattle.lvs_spec.specs.Types as type;
-ghost use Rattle.lvs_rules.specs.Lowest.{broken, tagRule, destinationRule, signerRule};
+ghost use Rattle.lvs_rules.specs.Lowest.{broken, tagRule, ownRule, destinationRule, signerRule};
 use lvs_spec::types::NODE_ID;
 
 // Above every rule's number: none is broken.
@@ -24,10 +24,11 @@ pub(crate) fn tag_rule(tag: u64) -> u32
     NO_RULE
 }
 
-// Rule 6: a NodeId is its Node's index.
-pub(crate) fn id_rule(id: u64, i: u32) -> u32
-    ensures { λ r. ⌜ r ≡ broken 6 (not (eqb id i)) ⌝ }
+// Rule 6: a Node's NodeId is its index.
+pub(crate) fn own_rule(node: &[u8], i: u32) -> u32
+    ensures { λ r. ⌜ r ≡ ownRule i (nodeOf (now (node .entry))) ⌝ }
 {
+    let id = tlv::number_in(node, NODE_ID);
     if id == i as u64 { NO_RULE } else { 6 }
 }
 

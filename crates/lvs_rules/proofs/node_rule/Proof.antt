@@ -9,8 +9,7 @@ returns c =
     let signers = c .before .before .before in
     let patterns = signers .before in
     let values = patterns .before in
-    let id = values .before in
-    node-item _ _ _ (id .before .number-in .ensures) (id .id-rule .ensures) (values .sweep .ensures) (patterns .sweep2 .ensures) (signers .sweep3 .ensures)
+    node-item _ _ _ (values .before .own-rule .ensures) (values .sweep .ensures) (patterns .sweep2 .ensures) (signers .sweep3 .ensures)
     (c .before .before .lower .ensures)
     (c .before .lower2 .ensures)
     (c .lower3 .ensures)
@@ -19,7 +18,6 @@ pub node-rule-spec : {M : Type 1} → statement M
 node-rule-spec =
     tie.close
     (tie.spec
-    (λ c κs. search needs)
     (λ c κs. search needs)
     (λ c κs. search needs)
     (λ c κs. search needs)
