@@ -1,6 +1,6 @@
 -- Laws of `min`, `broken` and `leastOf`. Assumes nothing.
 use mathlib.Core.Path.{_≡_, refl, sym, ap, _∙_}
-use mathlib.Core.Bool.{Bool, true, false, not}
+use mathlib.Core.Bool.{not}
 use mathlib.Core.List.{List, [], _∷_, _++_, map}
 use Prim.Native.Nat.{ℕ, _+_, _≤_, _<_, min}
 use native.Mathlib.Nat.{le-antisymm, le-trans, le-refl, le-min, min-comm, min-le-left, min-le-right, min-eq-left, min-eq-right}
@@ -24,13 +24,6 @@ min-swap a b c = sym (min-assoc a b c) ∙ ap (λ (x : ℕ). min x c) (min-comm 
 
 pub min-pairs : (a b c d : ℕ) → min (min a b) (min c d) ≡ min (min a c) (min b d)
 min-pairs a b c d = simp (min-assoc, min-swap)
-
--- ---- bounds
-
-pub broken-most : (r : ℕ) (t : Bool) → r ≤ noRule → broken r t ≤ noRule
-unfolding broken
-broken-most r true h = h
-broken-most r false h = le-refl _
 
 -- ---- a rule by its test
 

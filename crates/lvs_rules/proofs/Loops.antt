@@ -17,7 +17,8 @@ use Rattle.tlv.specs.Fields.{insides, numberOf, integers}
 use Rattle.tlv.specs.Lists.{first, firstOr}
 use Rattle.tlv.specs.declared.Place.{Place}
 use Rattle.tlv.proofs.Cuts.{Step}
-use Rattle.tlv.proofs.Gathered.{Stop, over, each-one, each-none, each-stop, insides-found, insides-stop, read-found, read-other, read-stop, Gathering, Gathered, started, passed, took, ended, listed, rest-is, counted, one-left, each-most, insides-most}
+use Rattle.tlv.proofs.Gathered.{Stop, over, each-one, each-none, each-stop, insides-found, insides-stop, read-found, read-other, read-stop, Gathering}
+use Rattle.tlv.proofs.Gathered.{Gathered, started, passed, took, ended, listed, rest-is, counted, one-left, each-most, insides-most}
 use Rattle.lvs_spec.specs.Limits.{maxNodes}
 use Rattle.lvs_spec.specs.Types as type
 use Rattle.lvs_spec.specs.Model.{Argument, Term, componentOf, callOf, argumentFrom, argumentOf, termFrom, nodeOf}

@@ -10,15 +10,13 @@ use lib.ListN.{length}
 use Rattle.tlv.specs.Lists.{each}
 use Rattle.lvs_spec.specs.Limits.{maxNodes}
 use Rattle.lvs_spec.specs.Model.{Model, Node, PatternEdge, Edge, destination, edges, Symbol, Constraint, ConstraintOption, Term, Call, Argument}
-use Rattle.lvs_spec.specs.Verdict.{rules, destinations, options, terms, callsIn, calls, argumentTags, termTags, nodeTags, namesNone, badTag, badCall}
-use Rattle.lvs_rules.specs.Lowest.{noRule, broken, leastOf, tagRule, argumentRule, argumentsRule, callRule, termRule, termsRule, optionRule, constraintRule, parentIndex, ownRule, signerRule, destinationRule, valueEdgeRule, patternEdgeRule, nodeRule, symbolRule}
-use Rattle.lvs_rules.proofs.Least.{min-assoc, min-swap, broken-most, least-same, least-append, least-both, least-map, least-each}
+use Rattle.lvs_spec.specs.Verdict.{rules, destinations, options, terms, callsIn, calls, argumentTags, termTags, nodeTags, namesNone}
+use Rattle.lvs_rules.specs.Lowest.{noRule, broken, leastOf, tagRule, argumentRule, argumentsRule, callRule, termRule, termsRule, optionRule}
+use Rattle.lvs_rules.specs.Lowest.{constraintRule}
+use Rattle.lvs_rules.specs.Lowest.{startRule, parentIndex, ownRule, signerRule, destinationRule, valueEdgeRule, patternEdgeRule, nodeRule, symbolRule}
+use Rattle.lvs_rules.proofs.Least.{min-assoc, min-swap, least-same, least-append, least-both, least-map, least-each}
 use Rattle.lvs_rules.proofs.ParentWords.{none-named, destination-is}
-use Rattle.lvs_rules.proofs.Rows.{Fits, fitting, firstRow, failsAt, failsOutside, row-node, row-outside}
-
-tag-most : (t : ℕ) → tagRule t ≤ noRule
-unfolding tagRule
-tag-most t = broken-most 5 (badTag t) (omega arith)
+use Rattle.lvs_rules.proofs.Rows.{Fits, fitting, firstRow, row-most, failsAt, failsOutside, row-node, row-outside}
 
 -- ---- the table
 
@@ -52,38 +50,46 @@ module _ (m : Model) where
   unfolding rules broken
   destination-row small d = destination-is m small d
 
-  start-row : length (m .nodes) ≤ maxNodes → broken 7 (namesNone m (m .start)) ≡ firstRow (λ a. a .whole) (rules m)
-  unfolding rules broken
+  start-row : length (m .nodes) ≤ maxNodes → startRule (length (m .nodes)) (m .start) ≡ firstRow (λ a. a .whole) (rules m)
+  unfolding startRule rules broken namesNone
   start-row few = rw (le-ltb maxNodes (length (m .nodes)) few)
 
   -- TagSymbols and StartId
-  pub outside-rows : length (m .nodes) ≤ maxNodes → min (leastOf symbolRule (m .symbols)) (broken 7 (namesNone m (m .start))) ≡ firstRow (failsOutside m) (rules m)
+  pub outside-rows : length (m .nodes) ≤ maxNodes
+      → min (leastOf symbolRule (m .symbols)) (startRule (length (m .nodes)) (m .start)) ≡ firstRow (failsOutside m) (rules m)
   unfolding symbolRule
   outside-rows few =
-      min-comm _ _ ∙ sym (row-outside (table-fits m) m ∙ rw (← start-row few) (ap (min _) (least-same (λ (s : Symbol). sym (tag-row (s .tag))) (m .symbols))))
+      min-comm _ _ ∙
+      rw (start-row few, least-same (λ (s : Symbol). tag-row (s .tag)) (m .symbols)) (sym (row-outside (table-fits m) m))
 
--- ---- a term: its Tags and its call
+  -- ---- a term: its Tags and its call
 
-argument-tags : (a : Argument) → leastOf tagRule (argumentTags a) ≡ argumentRule a
-unfolding leastOf argumentTags argumentRule
-argument-tags (Argument.value v) = refl
-argument-tags (Argument.tag t) = min-eq-left (tag-most t)
+  argument-tags : (a : Argument) → leastOf tagRule (argumentTags a) ≡ argumentRule a
+  unfolding leastOf argumentTags argumentRule
+  argument-tags (Argument.value v) = refl
+  argument-tags (Argument.tag t) = min-eq-left (rw (tag-row t) (row-most (λ a. a .tag t) (table-fits m)))
 
-term-parts : (t : Term) → termRule t ≡ min (leastOf tagRule (termTags t)) (leastOf argumentsRule (callsIn t))
-unfolding leastOf termRule termTags callsIn callRule argumentsRule
-term-parts (Term.value v) = refl
-term-parts (Term.tag t) = let h = tag-most t in omega arith
-term-parts (Term.call c) =
-    let e : leastOf tagRule (each argumentTags (c .arguments)) ≡ leastOf argumentRule (c .arguments) = least-each tagRule argumentTags (c .arguments) ∙ least-same argument-tags (c .arguments) in
-    let h : broken 12 (badCall c) ≤ noRule = broken-most 12 (badCall c) (omega arith) in
-    omega arith
+  term-parts : (t : Term) → termRule t ≡ min (leastOf tagRule (termTags t)) (leastOf argumentsRule (callsIn t))
+  unfolding leastOf termRule termTags callsIn callRule
+  term-parts (Term.value v) = refl
+  term-parts (Term.tag t) =
+      let h : tagRule t ≤ noRule = rw (tag-row t) (row-most (λ a. a .tag t) (table-fits m)) in
+      omega arith
+  term-parts (Term.call c) =
+      let e : leastOf tagRule (each argumentTags (c .arguments)) ≡ leastOf argumentRule (c .arguments) =
+      least-each tagRule argumentTags (c .arguments) ∙ least-same argument-tags (c .arguments) in
+      let h : argumentsRule c ≤ noRule = rw (call-row c) (row-most (λ a. a .call c) (table-fits m)) in
+      omega arith
 
 -- ---- a Node: its options, its terms
 
-module _ (n : Node) where
-  options-least : (f : ConstraintOption → ℕ) → leastOf f (options n) ≡ leastOf (λ (e : PatternEdge). leastOf (λ (c : Constraint). leastOf f c) (e .constraints)) (n .patternEdges)
+module _ (m : Model) (n : Node) where
+  options-least : (f : ConstraintOption → ℕ)
+      → leastOf f (options n) ≡ leastOf (λ (e : PatternEdge). leastOf (λ (c : Constraint). leastOf f c) (e .constraints)) (n .patternEdges)
   unfolding options
-  options-least f = least-each f (λ (e : PatternEdge). each (λ (c : Constraint). c) (e .constraints)) (n .patternEdges) ∙ least-same (λ e. least-each f (λ (c : Constraint). c) (e .constraints)) (n .patternEdges)
+  options-least f =
+      least-each f (λ (e : PatternEdge). each (λ (c : Constraint). c) (e .constraints)) (n .patternEdges) ∙
+      least-same (λ e. least-each f (λ (c : Constraint). c) (e .constraints)) (n .patternEdges)
 
   terms-least : (f : Term → ℕ) → leastOf f (terms n) ≡ leastOf (λ (o : ConstraintOption). leastOf f o) (options n)
   unfolding terms
@@ -101,7 +107,7 @@ module _ (n : Node) where
   terms-are : leastOf termRule (terms n) ≡ min termTagRules callRules
   unfolding calls
   terms-are =
-      least-same term-parts (terms n) ∙
+      least-same (term-parts m) (terms n) ∙
       least-both (λ t. leastOf tagRule (termTags t)) (λ t. leastOf argumentsRule (callsIn t)) (terms n) ∙
       rw (← least-each tagRule termTags (terms n), ← least-each argumentsRule callsIn (terms n))
 
@@ -136,18 +142,22 @@ module _ (n : Node) where
         (min (leastOf (λ (e : PatternEdge). to (e .destination)) (n .patternEdges)) (min optionRules (min termTagRules callRules)))
     unfolding patternEdgeRule
     patterns-are =
-        least-both (λ (e : PatternEdge). tagRule (e .tag)) (λ (e : PatternEdge). min (to (e .destination)) (leastOf constraintRule (e .constraints))) (n .patternEdges) ∙
+        least-both (λ (e : PatternEdge). tagRule (e .tag))
+        (λ (e : PatternEdge). min (to (e .destination)) (leastOf constraintRule (e .constraints)))
+        (n .patternEdges) ∙
         ap (min _)
         (least-both (λ (e : PatternEdge). to (e .destination)) (λ (e : PatternEdge). leastOf constraintRule (e .constraints)) (n .patternEdges) ∙
         ap (min _) constraints-are)
 
     parts-are : nodeRule parents i n ≡
-        min (ownRule i n) (min (leastOf tagRule (nodeTags n)) (min (leastOf to (destinations n)) (min (leastOf (signerRule parents) (n .signers)) (min optionRules callRules))))
+        min (ownRule i n)
+        (min (leastOf tagRule (nodeTags n))
+        (min (leastOf to (destinations n)) (min (leastOf (signerRule parents) (n .signers)) (min optionRules callRules))))
     unfolding nodeRule
     parts-are = rw (patterns-are, tags-are, destinations-are) (simp (min-assoc, min-comm, min-swap))
 
-  pub node-rows : (m : Model) {i : ℕ} → i < maxNodes → nodeRule (map parentIndex (m .nodes)) i n ≡ firstRow (λ a. failsAt a i n) (rules m)
-  node-rows m {i} small =
+  pub node-rows : {i : ℕ} → i < maxNodes → nodeRule (map parentIndex (m .nodes)) i n ≡ firstRow (λ a. failsAt a i n) (rules m)
+  node-rows {i} small =
       parts-are (map parentIndex (m .nodes)) i ∙
       rw (
         own-row m i n,

@@ -13,7 +13,8 @@ use lib.ListN.{length}
 use Rattle.tlv.proofs.Gathered.{any-append}
 use Rattle.tlv.specs.Lists.{any, each}
 use Rattle.lvs_spec.specs.Model.{Model, Node, Symbol}
-use Rattle.lvs_spec.specs.Verdict.{Test, whole, someTag, someNode, someDestination, someSigner, someOption, someCall, Verdict, refused, fault, decide, somewhere, firstFault, tags, nodeTags, destinations, options, calls}
+use Rattle.lvs_spec.specs.Verdict.{Test, whole, someTag, someNode, someDestination, someSigner, someOption, someCall, Verdict, refused, fault, decide}
+use Rattle.lvs_spec.specs.Verdict.{somewhere, firstFault, tags, nodeTags, destinations, options, calls}
 use Rattle.lvs_rules.specs.Lowest.{noRule}
 use Rattle.lvs_rules.specs.Faults.{earlier, lowestFrom, noFault, lowest, named, verdictOf}
 use Rattle.lvs_rules.specs.declared.Fault.{Fault}

@@ -4,6 +4,7 @@ use mathlib.Core.Path.{_≡_, refl, sym, ap, _∙_}
 use mathlib.Core.Bool.{Bool, true, false, cond, _||_, _&&_, not}
 use mathlib.Core.List.{List, [], _∷_}
 use Prim.Native.Nat.{ℕ, suc, _≤_, _<_, min}
+use native.Mathlib.Nat.{le-refl}
 use native.Mathlib.Omega.{arith}
 use borrow.Author.Tests.{leb-true}
 use lib.Dec.{leb, eqb}
@@ -90,6 +91,14 @@ row-least p (row {k} {r} {t} {rs} h e hs) = go (p (asks t)) (row-least p hs)
     go : (b : Bool) → r < firstRow p rs → k ≤ cond b r (firstRow p rs)
     go true l = h
     go false l = omega arith
+
+pub row-most : (p : Asks → Bool) {k : ℕ} {rs : List Row} → Fits k rs → firstRow p rs ≤ noRule
+row-most p (no-row h) = le-refl noRule
+row-most p (row {k} {r} {t} {rs} h e hs) = go (p (asks t)) (row-most p hs) (row-least p hs)
+  where
+    go : (b : Bool) → firstRow p rs ≤ noRule → r < firstRow p rs → cond b r (firstRow p rs) ≤ noRule
+    go true l l′ = omega arith
+    go false l l′ = l
 
 pub fits-most : {k : ℕ} {rs : List Row} → Fits k rs → k ≤ noRule
 fits-most hs =

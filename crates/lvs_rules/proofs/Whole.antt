@@ -3,14 +3,13 @@ use mathlib.Core.Path.{_≡_, refl, sym, _∙_}
 use mathlib.Core.List.{List, [], _∷_, map, map-map}
 use Prim.Native.Nat.{ℕ, suc, _≤_, _<_, min}
 use native.Mathlib.Omega.{arith}
-use lib.Dec.{leb}
 use lib.ListN.{length, take, length-map}
 use Rattle.lvs_spec.specs.Limits.{maxNodes}
 use Rattle.lvs_spec.specs.Types as type
 use Rattle.tlv.specs.Fields.{insides, theInteger}
 use Rattle.lvs_spec.specs.Model.{nodeOf, symbolOf, modelOf}
-use Rattle.lvs_spec.specs.Verdict.{Verdict, refused, judge, namesNone}
-use Rattle.lvs_rules.specs.Lowest.{broken, leastOf, nodeRule, parentIndex, symbolRule}
+use Rattle.lvs_spec.specs.Verdict.{Verdict, refused, judge}
+use Rattle.lvs_rules.specs.Lowest.{leastOf, startRule, nodeRule, parentIndex, symbolRule}
 use Rattle.lvs_rules.specs.Sorts.{typeOf, itemRule}
 use Rattle.lvs_rules.specs.Faults.{lowestFrom, noFault, lowest, verdictOf}
 use Rattle.lvs_rules.specs.declared.Fault.{Fault}
@@ -48,15 +47,15 @@ module _ (s : List ℕ) {n : ℕ} (count : n ≡ length (insides type.Node s)) w
     unfolding modelOf itemRule typeOf
     symbols-rule = least-map symbolRule symbolOf (insides type.TagSymbol s)
 
-    start-none : namesNone (modelOf s) (modelOf s .start) ≡ leb n (theInteger type.NodeId s)
-    unfolding modelOf namesNone
-    start-none = rw node-count
+    start-is : modelOf s .start ≡ theInteger type.NodeId s
+    unfolding modelOf
+    start-is = refl
 
     pub found : {fault : Fault} {symbols start whole : ℕ} {v : Verdict} → n ≤ maxNodes
         → fault ≡ lowest (λ i b. nodeRule (take n all) i (nodeOf b)) (insides type.Node s)
         → symbols ≡ leastOf (itemRule (take n all) 0 sort.Symbol) (insides (typeOf sort.Symbol) s)
-        → start ≡ broken 7 (leb n (theInteger type.NodeId s)) → whole ≡ min symbols start → v ≡ verdictOf fault whole n
+        → start ≡ startRule n (theInteger type.NodeId s) → whole ≡ min symbols start → v ≡ verdictOf fault whole n
         → v ≡ judge (modelOf s)
     found few f g h w e =
         let l = node-count in
-        rw (judge-few (modelOf s) (omega arith), all-parents, nodes-fault, symbols-rule, start-none, node-count, ← f, ← g, ← h, ← w) e
+        rw (judge-few (modelOf s) (omega arith), all-parents, nodes-fault, symbols-rule, node-count, start-is, ← f, ← g, ← h, ← w) e

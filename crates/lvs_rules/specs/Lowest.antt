@@ -59,6 +59,10 @@ parentFrom (some p) = cond (ltb p maxNodes) p maxNodes
 unfoldable pub parentIndex : Node → ℕ
 parentIndex n = parentFrom (n .parent)
 
+-- of StartId, where there are n Nodes
+unfoldable pub startRule : ℕ → ℕ → ℕ
+startRule n start = broken 7 (leb n start)
+
 -- of a Node itself; i is its index
 unfoldable pub ownRule : ℕ → Node → ℕ
 ownRule i n = broken 6 (not (eqb (n .id) i))

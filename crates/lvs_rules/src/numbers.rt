@@ -1,11 +1,10 @@
 // The rules that ask something of one number: 5 to 9 and 11.
 ghost use mathlib.Core.Path.{_≡_};
 ghost use Prim.Native.Nat.{_<_};
-ghost use lib.Dec.{leb};
 ghost use Rattle.tlv.specs.Fields.{theInteger};
 ghost use Rattle.lvs_spec.specs.Model.{nodeOf};
 ghost use Rattle.lvs_spec.specs.Types as type;
-ghost use Rattle.lvs_rules.specs.Lowest.{broken, tagRule, ownRule, destinationRule, signerRule};
+ghost use Rattle.lvs_rules.specs.Lowest.{tagRule, startRule, ownRule, destinationRule, signerRule};
 use lvs_spec::types::NODE_ID;
 
 // Above every rule's number: none is broken.
@@ -34,7 +33,7 @@ pub(crate) fn own_rule(node: &[u8], i: u32) -> u32
 
 // Rule 7: StartId names a Node; there are `n`.
 pub(crate) fn start_rule(model: &[u8], n: usize) -> u32
-    ensures { λ r. ⌜ r ≡ broken 7 (leb n (theInteger type.NodeId (now (model .entry)))) ⌝ }
+    ensures { λ r. ⌜ r ≡ startRule n (theInteger type.NodeId (now (model .entry))) ⌝ }
 {
     let start = tlv::number_in(model, NODE_ID);
     if n as u64 <= start { 7 } else { NO_RULE }

@@ -12,7 +12,8 @@ use Rattle.tlv.proofs.Cuts.{seen}
 use Rattle.tlv.proofs.Gathered.{stop-end, stop-malformed, insides-other, insides-stop, Gathered, passed, ended}
 use Rattle.lvs_rules.specs.Sorts.{typeOf, itemRule}
 use Rattle.lvs_rules.proofs.Loops.{least, none-swept, sweep-found}
-use Rattle.lvs_rules.proofs.Items.{argument-item, call-item, tag-item, option-item, constraint-item, value-edge-item, pattern-edge-item, signer-item, symbol-item}
+use Rattle.lvs_rules.proofs.Items.{argument-item, call-item, tag-item, option-item, constraint-item, value-edge-item, pattern-edge-item}
+use Rattle.lvs_rules.proofs.Items.{signer-item, symbol-item}
 use Rattle.lvs_rules.proofs.item_rule.Reads as item-rule
 use Rattle.lvs_rules.proofs.item_rule.Kinds as item-rule-kinds
 use Rattle.lvs_rules.proofs.+item_rule+sweep.Lts-item_rule as item-rule-lts
@@ -157,7 +158,8 @@ sweep-Inv-loop s sort i parents wanted rule₀ place₀ rule place =
 abbrev sweep-μ-loop : sweep-lts.MeasureT-loop
 sweep-μ-loop s sort i parents wanted rule₀ place₀ rule place = length s - place .at
 
-abbrev sweep-need : (sweep-lts.Claims → In 2 sweep-kinds.ps → Out 2 sweep-kinds.ps sweep-kinds.r → sweep-lts.InvT-loop → sweep-lts.MeasureT-loop → Type 0) → ℕ → Type 0
+abbrev sweep-need : (sweep-lts.Claims → In 2 sweep-kinds.ps → Out 2 sweep-kinds.ps sweep-kinds.r → sweep-lts.InvT-loop → sweep-lts.MeasureT-loop → Type 0)
+    → ℕ → Type 0
 sweep-need N t = N (sweep-calls t) (sweep-at t) sweep.Post sweep-Inv-loop sweep-μ-loop
 
 sweep-loop-holds : (t : ℕ) → sweep-need sweep-lts.Need-loop-holds t

@@ -68,12 +68,14 @@ loop-again c =
 returns-3 : tie.Need-returns-3 Inv-loop μ-loop
 returns-3 c =
     let end = c .before in
-    argument-none (end .before .before .before .loop .inv) (stop-end _ _ (end .before .before .element .ensures) (end .enum-told .given .1)) (c .tag-rule2 .ensures)
+    argument-none (end .before .before .before .loop .inv) (stop-end _ _ (end .before .before .element .ensures) (end .enum-told .given .1))
+    (c .tag-rule2 .ensures)
 
 returns-4 : tie.Need-returns-4 Inv-loop μ-loop
 returns-4 c =
     let end = c .before in
-    argument-none (end .before .before .before .loop .inv) (stop-malformed _ _ (end .before .before .element .ensures) (end .enum-told2 .given .1)) (c .tag-rule3 .ensures)
+    argument-none (end .before .before .before .loop .inv) (stop-malformed _ _ (end .before .before .element .ensures) (end .enum-told2 .given .1))
+    (c .tag-rule3 .ensures)
 
 pub argument-rule-spec : {M : Type 1} → statement M
 argument-rule-spec =
