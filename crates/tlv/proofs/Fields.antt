@@ -6,7 +6,7 @@ use Prim.Native.Nat.{ℕ, _-_}
 use native.Mathlib.Omega.{arith}
 use lib.ListN.{take, drop}
 use Rattle.tlv.specs.Number.{integer}
-use Rattle.tlv.specs.Reading.{integerOf, integerFrom}
+use Rattle.tlv.specs.Answers.{integerOf, integerFrom}
 use Rattle.tlv.specs.Lists.{first, firstOr}
 use Rattle.tlv.specs.Fields.{InsideOf, insides, theInside, numberOf, theInteger}
 use Rattle.tlv.specs.declared.Place.{Place}
@@ -52,7 +52,9 @@ module _ (b : List ℕ) {r : IntegerRead} (e : r ≡ integerOf b) where
     where
       go : (o : Option ℕ) → integer b ≡ o → 0 ≡ numberOf b
       go none q = rw (q, numberOf)
-      go (some m) q = let g : integerFrom (some m) ≡ OtherSize = rw (q, integerOf) at (sym e ∙ f) in let z : _≡_ {A = ℕ} 0 1 = cc in absurd (omega arith)
+      go (some m) q =
+          let g : integerFrom (some m) ≡ OtherSize = rw (q, integerOf) at (sym e ∙ f) in
+          let z : _≡_ {A = ℕ} 0 1 = cc in absurd (omega arith)
 
 pub number-inside : (k : ℕ) (s : List ℕ) (p : Part) {r : ℕ} → InsideOf s k p → r ≡ numberOf (take (p .end - p .start) (drop (p .start) s))
     → r ≡ theInteger k s

@@ -1,28 +1,28 @@
--- `lvs_constraints::argument_of` meets its contract. The invariant: the first argument from this place on is the first of all. Assumes nothing.
-use mathlib.Core.Path.{_≡_, refl}
+-- `lvs_constraints::argument_of` meets its contract. The invariant: no element before the place is an argument. Assumes nothing.
+use mathlib.Core.List.{[]}
 use native.Mathlib.Omega.{arith}
 use borrow.Author.Needs.{needs}
 use Prim.Native.Nat.{_-_}
-use lib.ListN.{length, drop}
-use Rattle.tlv.specs.Element.{cuts}
-use Rattle.tlv.proofs.Cuts.{seen}
-use Rattle.tlv.specs.Lists.{firstOr}
-use Rattle.lvs_spec.specs.Model.{Argument, argumentFrom, argumentOf}
-use Rattle.tlv.specs.Fields.{eachCut}
-use Rattle.tlv.proofs.Gathered.{stop-end, stop-malformed}
+use lib.ListN.{length}
+use Rattle.tlv.proofs.Cuts.{seen, SeenOf}
+use Rattle.tlv.proofs.Gathered.{stop-end, stop-malformed, over, Gathered, listed, started}
+use Rattle.lvs_spec.specs.Model.{argumentFrom}
 use Rattle.lvs_constraints.proofs.Holds.{argument-value, argument-tag, argument-later, argument-none}
 use Rattle.lvs_constraints.proofs.argument_of.Statement.{statement}
 use Rattle.lvs_constraints.proofs.argument_of.Tie as tie
 
 abbrev Inv-loop : tie.InvT-loop
-Inv-loop s place₀ place = firstOr (Argument.tag 0) (eachCut argumentFrom (cuts (drop (place .at) s))) ≡ argumentOf s
+Inv-loop s place₀ place = Gathered listed (over argumentFrom) s (place .at) []
 
 abbrev μ-loop : tie.MeasureT-loop
 μ-loop s place₀ place = length s - place .at
 
+-- the element that was found
+step : (c : tie.After-typ Inv-loop μ-loop) → SeenOf _ _ (c .before .before .element .ensures) (c .typ .given .1)
+step c = seen _ _ (c .before .before .element .ensures) (c .typ .given .1)
+
 loop-holds : tie.Need-loop-holds Inv-loop μ-loop
-unfolding argumentOf
-loop-holds c = refl
+loop-holds c = started
 
 element-requires : tie.Need-element-requires Inv-loop μ-loop
 element-requires c κs = search needs
@@ -31,28 +31,31 @@ enum-known-typ : tie.Need-enum-known-typ Inv-loop μ-loop
 enum-known-typ c = search needs
 
 returns : tie.Need-returns Inv-loop μ-loop
-returns c = argument-value (c .before .before .before .before .before .loop .inv) (seen _ _ (c .before .before .before .before .element .ensures) (c .before .before .typ .given .1)) (c .if1 .taken)
+returns c = argument-value (c .before .before .before .before .before .loop .inv) (step (c .before .before)) (c .if1 .taken)
 
 sub-number-of : tie.Need-sub-number-of Inv-loop μ-loop
-sub-number-of c = seen _ _ (c .before .before .before .before .before .element .ensures) (c .before .before .before .typ .given .1) .order
+sub-number-of c = step (c .before .before .before) .order
 
 part-number-of-start : tie.Need-part-number-of-start Inv-loop μ-loop
-part-number-of-start c = seen _ _ (c .before .before .before .before .before .element .ensures) (c .before .before .before .typ .given .1) .order
+part-number-of-start c = step (c .before .before .before) .order
 
 part-number-of-end : tie.Need-part-number-of-end Inv-loop μ-loop
-part-number-of-end c = seen _ _ (c .before .before .before .before .before .element .ensures) (c .before .before .before .typ .given .1) .within
+part-number-of-end c = step (c .before .before .before) .within
 
 number-of-requires : tie.Need-number-of-requires Inv-loop μ-loop
 number-of-requires c κs = search needs
 
 returns-2 : tie.Need-returns-2 Inv-loop μ-loop
-returns-2 c = rw (c .number-of .ensures) (argument-tag (c .before .before .before .before .before .before .before .before .loop .inv) (seen _ _ (c .before .before .before .before .before .before .before .element .ensures) (c .before .before .before .before .before .typ .given .1)) (c .before .before .if2 .taken))
+returns-2 c =
+    let d = c .before .before .before .before .before in
+    rw (c .number-of .ensures) (argument-tag (d .before .before .before .loop .inv) (step d) (c .before .before .if2 .taken))
 
 loop-less : tie.Need-loop-less Inv-loop μ-loop
-loop-less c = let f = seen _ _ (c .before .before .before .before .before .element .ensures) (c .before .before .before .typ .given .1) in omega arith
+loop-less c = let f = step (c .before .before .before) in omega arith
 
 loop-again : tie.Need-loop-again Inv-loop μ-loop
-loop-again c = argument-later (c .before .before .before .before .before .before .loop .inv) (seen _ _ (c .before .before .before .before .before .element .ensures) (c .before .before .before .typ .given .1)) (c .before .if1 .left) (c .if2 .left)
+loop-again c =
+    argument-later (c .before .before .before .before .before .before .loop .inv) (step (c .before .before .before)) (c .before .if1 .left) (c .if2 .left)
 
 enum-told : tie.Need-enum-told Inv-loop μ-loop
 enum-told c = search needs

@@ -1,27 +1,31 @@
--- `lvs_constraints::constraint_holds` meets its contract. The invariant: whether an option from this place on holds is whether any does. Assumes nothing.
-use mathlib.Core.Path.{_≡_, refl, sym}
+-- `lvs_constraints::constraint_holds` meets its contract. The invariant: no option before the place holds. Assumes nothing.
+use mathlib.Core.Bool.{false}
 use native.Mathlib.Omega.{arith}
 use borrow.Author.Needs.{needs}
 use Prim.Native.Nat.{_-_}
 use lib.ListN.{length}
-use Rattle.tlv.proofs.Cuts.{seen}
-use Rattle.tlv.proofs.Gathered.{stop-end, stop-malformed}
-use Rattle.lvs_spec.specs.Model.{componentOf, constraintOf}
-use Rattle.lvs_spec.specs.Walk.{constraintHolds}
+use Rattle.tlv.proofs.Cuts.{seen, SeenOf}
+use Rattle.tlv.proofs.Gathered.{stop-end, stop-malformed, read-found, read-other, read-stop, Gathered, some-of, started, passed, ended, some-here, some-later}
+use Rattle.lvs_spec.specs.Types as type
+use Rattle.lvs_spec.specs.Model.{componentOf, optionOf, constraintOf}
+use Rattle.lvs_spec.specs.Walk.{optionHolds, constraintHolds}
 use Rattle.lvs_constraints.specs.Bindings.{bindingsOf}
-use Rattle.lvs_constraints.proofs.Holds.{anyFrom, constraint-here, constraint-later, constraint-other, constraint-none}
 use Rattle.lvs_constraints.proofs.constraint_holds.Statement.{statement}
 use Rattle.lvs_constraints.proofs.constraint_holds.Tie as tie
 
 abbrev Inv-loop : tie.InvT-loop
-Inv-loop s packet key slots c place₀ place = anyFrom (bindingsOf packet key slots) (componentOf c) s (place .at) ≡ constraintHolds (bindingsOf packet key slots) (componentOf c) (constraintOf s)
+Inv-loop s packet key slots c place₀ place =
+    Gathered (some-of (optionHolds (bindingsOf packet key slots) (componentOf c))) constraintOf s (place .at) false
 
 abbrev μ-loop : tie.MeasureT-loop
 μ-loop s packet key slots c place₀ place = length s - place .at
 
+-- the element that was found
+step : (c : tie.After-typ Inv-loop μ-loop) → SeenOf _ _ (c .before .before .element .ensures) (c .typ .given .1)
+step c = seen _ _ (c .before .before .element .ensures) (c .typ .given .1)
+
 loop-holds : tie.Need-loop-holds Inv-loop μ-loop
-unfolding constraintHolds constraintOf
-loop-holds c = refl
+loop-holds c = started
 
 element-requires : tie.Need-element-requires Inv-loop μ-loop
 element-requires c κs = search needs
@@ -30,43 +34,54 @@ enum-known-typ : tie.Need-enum-known-typ Inv-loop μ-loop
 enum-known-typ c = search needs
 
 sub-option-holds : tie.Need-sub-option-holds Inv-loop μ-loop
-sub-option-holds c = seen _ _ (c .before .before .before .before .element .ensures) (c .before .before .typ .given .1) .order
+sub-option-holds c = step (c .before .before) .order
 
 part-option-holds-start : tie.Need-part-option-holds-start Inv-loop μ-loop
-part-option-holds-start c = seen _ _ (c .before .before .before .before .element .ensures) (c .before .before .typ .given .1) .order
+part-option-holds-start c = step (c .before .before) .order
 
 part-option-holds-end : tie.Need-part-option-holds-end Inv-loop μ-loop
-part-option-holds-end c = seen _ _ (c .before .before .before .before .element .ensures) (c .before .before .typ .given .1) .within
+part-option-holds-end c = step (c .before .before) .within
 
 option-holds-requires : tie.Need-option-holds-requires Inv-loop μ-loop
 option-holds-requires c κs = search needs
 
 returns : tie.Need-returns Inv-loop μ-loop
-returns c = sym (constraint-here _ _ (c .before .before .before .before .before .before .before .before .loop .inv) (seen _ _ (c .before .before .before .before .before .before .before .element .ensures) (c .before .before .before .before .before .typ .given .1)) (c .before .before .before .if1 .taken) (c .before .option-holds .ensures) (c .if2 .taken))
+unfolding constraintHolds constraintOf
+returns c =
+    let d = c .before .before .before .before .before in
+    let e = read-found optionOf type.ConstraintOption (step d) (c .before .before .before .if1 .taken) in
+    some-here (d .before .before .before .loop .inv) e (c .before .option-holds .ensures) (c .if2 .taken)
 
 loop-less : tie.Need-loop-less Inv-loop μ-loop
-loop-less c = let f = seen _ _ (c .before .before .before .before .before .before .before .element .ensures) (c .before .before .before .before .before .typ .given .1) in omega arith
+loop-less c = let st = step (c .before .before .before .before .before) in omega arith
 
 loop-again : tie.Need-loop-again Inv-loop μ-loop
-loop-again c = constraint-later _ _ (c .before .before .before .before .before .before .before .before .loop .inv) (seen _ _ (c .before .before .before .before .before .before .before .element .ensures) (c .before .before .before .before .before .typ .given .1)) (c .before .before .before .if1 .taken) (c .before .option-holds .ensures) (c .if2 .left)
+unfolding constraintOf
+loop-again c =
+    let d = c .before .before .before .before .before in
+    let e = read-found optionOf type.ConstraintOption (step d) (c .before .before .before .if1 .taken) in
+    some-later (d .before .before .before .loop .inv) e (c .before .option-holds .ensures) (c .if2 .left)
 
 loop-less-2 : tie.Need-loop-less-2 Inv-loop μ-loop
-loop-less-2 c = let f = seen _ _ (c .before .before .before .before .element .ensures) (c .before .before .typ .given .1) in omega arith
+loop-less-2 c = let st = step (c .before .before) in omega arith
 
 loop-again-2 : tie.Need-loop-again-2 Inv-loop μ-loop
-loop-again-2 c = constraint-other _ _ (c .before .before .before .before .before .loop .inv) (seen _ _ (c .before .before .before .before .element .ensures) (c .before .before .typ .given .1)) (c .if1 .left)
+unfolding constraintOf
+loop-again-2 c = passed (c .before .before .before .before .before .loop .inv) (read-other _ _ (step (c .before .before)) (c .if1 .left))
 
 enum-told : tie.Need-enum-told Inv-loop μ-loop
 enum-told c = search needs
 
 returns-2 : tie.Need-returns-2 Inv-loop μ-loop
-returns-2 c = sym (constraint-none _ _ (c .before .before .before .loop .inv) (stop-end _ _ (c .before .before .element .ensures) (c .enum-told .given .1)))
+unfolding constraintHolds constraintOf
+returns-2 c = ended (c .before .before .before .loop .inv) (read-stop _ _ (stop-end _ _ (c .before .before .element .ensures) (c .enum-told .given .1)))
 
 enum-told-2 : tie.Need-enum-told-2 Inv-loop μ-loop
 enum-told-2 c = search needs
 
 returns-3 : tie.Need-returns-3 Inv-loop μ-loop
-returns-3 c = sym (constraint-none _ _ (c .before .before .before .loop .inv) (stop-malformed _ _ (c .before .before .element .ensures) (c .enum-told2 .given .1)))
+unfolding constraintHolds constraintOf
+returns-3 c = ended (c .before .before .before .loop .inv) (read-stop _ _ (stop-malformed _ _ (c .before .before .element .ensures) (c .enum-told2 .given .1)))
 
 pub constraint-holds-spec : {M : Type 1} → statement M
 constraint-holds-spec =

@@ -8,7 +8,7 @@ use lib.ListN.{length, length-take, length-drop}
 use borrow.Fn.Kinds.{In, Out}
 use borrow.Fn.PlainCycle.{Measures, is, falls, and}
 use Rattle.tlv.specs.Fields.{insides}
-use Rattle.tlv.proofs.Cuts.{seen}
+use Rattle.tlv.proofs.Cuts.{seen, SeenOf}
 use Rattle.tlv.proofs.Gathered.{stop-end, stop-malformed, insides-other, insides-stop, Gathered, passed, ended}
 use Rattle.lvs_rules.specs.Sorts.{typeOf, itemRule}
 use Rattle.lvs_rules.proofs.Loops.{least, none-swept, sweep-found}
@@ -162,58 +162,46 @@ abbrev sweep-need : (sweep-lts.Claims → In 2 sweep-kinds.ps → Out 2 sweep-ki
     → ℕ → Type 0
 sweep-need N t = N (sweep-calls t) (sweep-at t) sweep.Post sweep-Inv-loop sweep-μ-loop
 
+-- at an element that was found
+module _ (t : ℕ) (c : sweep-need sweep-lts.After-typ t) where
+  step : SeenOf _ _ (c .before .before .element .ensures) (c .typ .given .1)
+  step = seen _ _ (c .before .before .element .ensures) (c .typ .given .1)
+
 sweep-loop-holds : (t : ℕ) → sweep-need sweep-lts.Need-loop-holds t
 sweep-loop-holds t c = none-swept _ _ _
 
 sweep-sub-item-rule : (t : ℕ) → sweep-need sweep-lts.Need-sub-item-rule t
-sweep-sub-item-rule t c =
-    let turn = c .before .before in
-    let step = seen _ _ (turn .before .before .element .ensures) (turn .typ .given .1) in
-    omega (arith, step)
+sweep-sub-item-rule t c = omega (arith, step t (c .before .before))
 
 sweep-part-item-rule-start : (t : ℕ) → sweep-need sweep-lts.Need-part-item-rule-start t
-sweep-part-item-rule-start t c =
-    let turn = c .before .before in
-    let step = seen _ _ (turn .before .before .element .ensures) (turn .typ .given .1) in
-    omega (arith, step)
+sweep-part-item-rule-start t c = omega (arith, step t (c .before .before))
 
 sweep-part-item-rule-end : (t : ℕ) → sweep-need sweep-lts.Need-part-item-rule-end t
-sweep-part-item-rule-end t c =
-    let turn = c .before .before in
-    let step = seen _ _ (turn .before .before .element .ensures) (turn .typ .given .1) in
-    omega (arith, step)
+sweep-part-item-rule-end t c = omega (arith, step t (c .before .before))
 
 sweep-item-rule-requires : (t : ℕ) → sweep-need sweep-lts.Need-item-rule-requires t
 sweep-item-rule-requires t c κs =
     let turn = c .before .before .before in
-    let step = seen _ _ (turn .before .before .element .ensures) (turn .typ .given .1) in
-    (simp (length-take, length-drop) (omega (arith, turn .before .before .before .before .before .before .before .pre .0, step)), tt)
+    (simp (length-take, length-drop) (omega (arith, turn .before .before .before .before .before .before .before .pre .0, step t turn)), tt)
 
 sweep-loop-less : (t : ℕ) → sweep-need sweep-lts.Need-loop-less t
-sweep-loop-less t c =
-    let turn = c .before .before .before .before .before in
-    omega (arith, seen _ _ (turn .before .before .element .ensures) (turn .typ .given .1))
+sweep-loop-less t c = omega (arith, step t (c .before .before .before .before .before))
 
 sweep-loop-again : (t : ℕ) → sweep-need sweep-lts.Need-loop-again t
 sweep-loop-again t c =
     let item = c .before .before .before in
     let turn = item .before .before in
-    let step = seen _ _ (turn .before .before .element .ensures) (turn .typ .given .1) in
     let loop = turn .before .before .before in
-    sweep-found _ (loop .loop .inv) step (item .if1 .taken ∙ loop .before .type-of .ensures) (c .before .item-rule .ensures) (c .lower .ensures)
+    sweep-found _ (loop .loop .inv) (step t turn) (item .if1 .taken ∙ loop .before .type-of .ensures) (c .before .item-rule .ensures) (c .lower .ensures)
 
 sweep-loop-less-2 : (t : ℕ) → sweep-need sweep-lts.Need-loop-less-2 t
-sweep-loop-less-2 t c =
-    let turn = c .before .before in
-    let step = seen _ _ (turn .before .before .element .ensures) (turn .typ .given .1) in
-    omega (arith, step)
+sweep-loop-less-2 t c = omega (arith, step t (c .before .before))
 
 sweep-loop-again-2 : (t : ℕ) → sweep-need sweep-lts.Need-loop-again-2 t
 sweep-loop-again-2 t c =
     let turn = c .before .before in
-    let step = seen _ _ (turn .before .before .element .ensures) (turn .typ .given .1) in
     let loop = turn .before .before .before in
-    passed (loop .loop .inv) (insides-other _ step (λ e. c .if1 .left (e ∙ sym (loop .before .type-of .ensures))))
+    passed (loop .loop .inv) (insides-other _ (step t turn) (λ e. c .if1 .left (e ∙ sym (loop .before .type-of .ensures))))
 
 sweep-returns : (t : ℕ) → sweep-need sweep-lts.Need-returns t
 sweep-returns t c = ended (c .before .before .before .loop .inv) (insides-stop _ (stop-end _ _ (c .before .before .element .ensures) (c .enum-told .given .1)))

@@ -5,7 +5,7 @@ use mathlib.Core.List.{[]}
 use Prim.Native.Nat.{_-_}
 use lib.ListN.{length}
 use Rattle.tlv.specs.Fields.{insides}
-use Rattle.tlv.proofs.Cuts.{seen}
+use Rattle.tlv.proofs.Cuts.{seen, SeenOf}
 use Rattle.tlv.proofs.Gathered.{stop-end, stop-malformed, insides-other, Gathered, listed, started, passed}
 use Rattle.tlv.proofs.Fields.{inside-here, inside-none}
 use Rattle.tlv.proofs.inside_of.Statement.{statement}
@@ -17,6 +17,11 @@ Inv-loop s typ place₀ place = Gathered listed (insides typ) s (place .at) []
 abbrev μ-loop : tie.MeasureT-loop
 μ-loop s typ place₀ place = length s - place .at
 
+-- at an element that was found
+module _ (c : tie.After-t Inv-loop μ-loop) where
+  step : SeenOf _ _ (c .before .before .element .ensures) (c .t .given .1)
+  step = seen _ _ (c .before .before .element .ensures) (c .t .given .1)
+
 loop-holds : tie.Need-loop-holds Inv-loop μ-loop
 loop-holds c = started
 
@@ -27,13 +32,13 @@ enum-known-t : tie.Need-enum-known-t Inv-loop μ-loop
 enum-known-t c = search needs
 
 returns : tie.Need-returns Inv-loop μ-loop
-returns c = inside-here (c .before .before .before .before .before .loop .inv) (seen _ _ (c .before .before .before .before .element .ensures) (c .before .before .t .given .1)) (c .if1 .taken)
+returns c = inside-here (c .before .before .before .before .before .loop .inv) (step (c .before .before)) (c .if1 .taken)
 
 loop-less : tie.Need-loop-less Inv-loop μ-loop
-loop-less c = omega (arith, seen _ _ (c .before .before .before .before .element .ensures) (c .before .before .t .given .1))
+loop-less c = let st = step (c .before .before) in omega arith
 
 loop-again : tie.Need-loop-again Inv-loop μ-loop
-loop-again c = passed (c .before .before .before .before .before .loop .inv) (insides-other _ (seen _ _ (c .before .before .before .before .element .ensures) (c .before .before .t .given .1)) (c .if1 .left))
+loop-again c = passed (c .before .before .before .before .before .loop .inv) (insides-other _ (step (c .before .before)) (c .if1 .left))
 
 enum-told : tie.Need-enum-told Inv-loop μ-loop
 enum-told c = search needs

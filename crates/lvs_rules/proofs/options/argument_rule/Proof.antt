@@ -4,7 +4,7 @@ use Prim.Native.Nat.{_-_}
 use mathlib.Core.Path.{ap, _∙_}
 use mathlib.Core.List.{[]}
 use lib.ListN.{length}
-use Rattle.tlv.proofs.Cuts.{seen}
+use Rattle.tlv.proofs.Cuts.{seen, SeenOf}
 use Rattle.tlv.proofs.Gathered.{stop-end, stop-malformed, over, Gathered, listed, started}
 use Rattle.lvs_spec.specs.Model.{argumentFrom}
 use Rattle.lvs_rules.specs.Lowest.{tagRule}
@@ -19,51 +19,41 @@ Inv-loop b place₀ place = Gathered listed (over argumentFrom) b (place .at) []
 abbrev μ-loop : tie.MeasureT-loop
 μ-loop b place₀ place = length b - place .at
 
+-- at an element that was found
+module _ (c : tie.After-typ Inv-loop μ-loop) where
+  step : SeenOf _ _ (c .before .before .element .ensures) (c .typ .given .1)
+  step = seen _ _ (c .before .before .element .ensures) (c .typ .given .1)
+
 loop-holds : tie.Need-loop-holds Inv-loop μ-loop
 loop-holds c = started
 
 returns : tie.Need-returns Inv-loop μ-loop
 returns c =
     let turn = c .before .before in
-    let step = seen _ _ (turn .before .before .element .ensures) (turn .typ .given .1) in
-    value-first (turn .before .before .before .loop .inv) step (c .if1 .taken)
+    value-first (turn .before .before .before .loop .inv) (step turn) (c .if1 .taken)
 
 sub-number-of : tie.Need-sub-number-of Inv-loop μ-loop
-sub-number-of c =
-    let turn = c .before .before .before in
-    let step = seen _ _ (turn .before .before .element .ensures) (turn .typ .given .1) in
-    omega (arith, step)
+sub-number-of c = omega (arith, step (c .before .before .before))
 
 part-number-of-start : tie.Need-part-number-of-start Inv-loop μ-loop
-part-number-of-start c =
-    let turn = c .before .before .before in
-    let step = seen _ _ (turn .before .before .element .ensures) (turn .typ .given .1) in
-    omega (arith, step)
+part-number-of-start c = omega (arith, step (c .before .before .before))
 
 part-number-of-end : tie.Need-part-number-of-end Inv-loop μ-loop
-part-number-of-end c =
-    let turn = c .before .before .before in
-    let step = seen _ _ (turn .before .before .element .ensures) (turn .typ .given .1) in
-    omega (arith, step)
+part-number-of-end c = omega (arith, step (c .before .before .before))
 
 returns-2 : tie.Need-returns-2 Inv-loop μ-loop
 returns-2 c =
     let tag = c .before .before .before in
     let turn = tag .before .before .before in
-    let step = seen _ _ (turn .before .before .element .ensures) (turn .typ .given .1) in
-    tag-first (turn .before .before .before .loop .inv) step (tag .if2 .taken) (c .tag-rule .ensures ∙ ap tagRule (c .before .number-of .ensures))
+    tag-first (turn .before .before .before .loop .inv) (step turn) (tag .if2 .taken) (c .tag-rule .ensures ∙ ap tagRule (c .before .number-of .ensures))
 
 loop-less : tie.Need-loop-less Inv-loop μ-loop
-loop-less c =
-    let turn = c .before .before .before in
-    let step = seen _ _ (turn .before .before .element .ensures) (turn .typ .given .1) in
-    omega (arith, step)
+loop-less c = omega (arith, step (c .before .before .before))
 
 loop-again : tie.Need-loop-again Inv-loop μ-loop
 loop-again c =
     let turn = c .before .before .before in
-    let step = seen _ _ (turn .before .before .element .ensures) (turn .typ .given .1) in
-    no-argument (turn .before .before .before .loop .inv) step (c .before .if1 .left) (c .if2 .left)
+    no-argument (turn .before .before .before .loop .inv) (step turn) (c .before .if1 .left) (c .if2 .left)
 
 returns-3 : tie.Need-returns-3 Inv-loop μ-loop
 returns-3 c =

@@ -4,7 +4,7 @@ use native.Mathlib.Omega.{arith}
 use Prim.Native.Nat.{_-_}
 use lib.ListN.{length}
 use Rattle.tlv.specs.Fields.{insides}
-use Rattle.tlv.proofs.Cuts.{seen}
+use Rattle.tlv.proofs.Cuts.{seen, SeenOf}
 use Rattle.tlv.proofs.Gathered.{stop-end, stop-malformed, insides-found, insides-other, insides-stop, Gathered, counted, started, took, passed, ended}
 use Rattle.lvs_rules.proofs.Loops.{inside-room}
 use borrow.Author.Needs.{needs}
@@ -17,38 +17,34 @@ Inv-loop s wanted n₀ place₀ n place = Gathered counted (insides wanted) s (p
 abbrev μ-loop : tie.MeasureT-loop
 μ-loop s wanted n₀ place₀ n place = length s - place .at
 
+-- at an element that was found
+module _ (c : tie.After-typ Inv-loop μ-loop) where
+  step : SeenOf _ _ (c .before .before .element .ensures) (c .typ .given .1)
+  step = seen _ _ (c .before .before .element .ensures) (c .typ .given .1)
+
 loop-holds : tie.Need-loop-holds Inv-loop μ-loop
 loop-holds c = started
 
 add-n : tie.Need-add-n Inv-loop μ-loop
 add-n c =
     let turn = c .before .before in
-    let step = seen _ _ (turn .before .before .element .ensures) (turn .typ .given .1) in
-    omega (arith, inside-room (turn .before .before .before .loop .inv) step (c .if1 .taken))
+    omega (arith, inside-room (turn .before .before .before .loop .inv) (step turn) (c .if1 .taken))
 
 loop-less : tie.Need-loop-less Inv-loop μ-loop
-loop-less c =
-    let turn = c .before .before in
-    let step = seen _ _ (turn .before .before .element .ensures) (turn .typ .given .1) in
-    omega (arith, step)
+loop-less c = omega (arith, step (c .before .before))
 
 loop-again : tie.Need-loop-again Inv-loop μ-loop
 loop-again c =
     let turn = c .before .before in
-    let step = seen _ _ (turn .before .before .element .ensures) (turn .typ .given .1) in
-    took (turn .before .before .before .loop .inv) (insides-found _ step (c .if1 .taken)) refl
+    took (turn .before .before .before .loop .inv) (insides-found _ (step turn) (c .if1 .taken)) refl
 
 loop-less-2 : tie.Need-loop-less-2 Inv-loop μ-loop
-loop-less-2 c =
-    let turn = c .before .before in
-    let step = seen _ _ (turn .before .before .element .ensures) (turn .typ .given .1) in
-    omega (arith, step)
+loop-less-2 c = omega (arith, step (c .before .before))
 
 loop-again-2 : tie.Need-loop-again-2 Inv-loop μ-loop
 loop-again-2 c =
     let turn = c .before .before in
-    let step = seen _ _ (turn .before .before .element .ensures) (turn .typ .given .1) in
-    passed (turn .before .before .before .loop .inv) (insides-other _ step (c .if1 .left))
+    passed (turn .before .before .before .loop .inv) (insides-other _ (step turn) (c .if1 .left))
 
 returns : tie.Need-returns Inv-loop μ-loop
 returns c = ended (c .before .before .before .loop .inv) (insides-stop _ (stop-end _ _ (c .before .before .element .ensures) (c .enum-told .given .1)))

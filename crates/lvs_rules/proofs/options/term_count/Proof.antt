@@ -2,7 +2,7 @@
 use native.Mathlib.Omega.{arith}
 use Prim.Native.Nat.{_-_}
 use lib.ListN.{length}
-use Rattle.tlv.proofs.Cuts.{seen}
+use Rattle.tlv.proofs.Cuts.{seen, SeenOf}
 use Rattle.tlv.proofs.Gathered.{stop-end, stop-malformed, over, each-stop, Gathered, counted, started, ended}
 use Rattle.lvs_spec.specs.Model.{termFrom, optionOf}
 use Rattle.lvs_rules.proofs.Loops.{term-counted, term-passed, term-room}
@@ -16,38 +16,34 @@ Inv-loop b n₀ place₀ n place = Gathered counted (over termFrom) b (place .at
 abbrev μ-loop : tie.MeasureT-loop
 μ-loop b n₀ place₀ n place = length b - place .at
 
+-- at an element that was found
+module _ (c : tie.After-typ Inv-loop μ-loop) where
+  step : SeenOf _ _ (c .before .before .element .ensures) (c .typ .given .1)
+  step = seen _ _ (c .before .before .element .ensures) (c .typ .given .1)
+
 loop-holds : tie.Need-loop-holds Inv-loop μ-loop
 loop-holds c = started
 
 add-n : tie.Need-add-n Inv-loop μ-loop
 add-n c =
     let turn = c .before .before in
-    let step = seen _ _ (turn .before .before .element .ensures) (turn .typ .given .1) in
-    omega (arith, term-room (turn .before .before .before .loop .inv) step (c .match2 .keys1))
+    omega (arith, term-room (turn .before .before .before .loop .inv) (step turn) (c .match2 .keys1))
 
 loop-less : tie.Need-loop-less Inv-loop μ-loop
-loop-less c =
-    let turn = c .before .before in
-    let step = seen _ _ (turn .before .before .element .ensures) (turn .typ .given .1) in
-    omega (arith, step)
+loop-less c = omega (arith, step (c .before .before))
 
 loop-again : tie.Need-loop-again Inv-loop μ-loop
 loop-again c =
     let turn = c .before .before in
-    let step = seen _ _ (turn .before .before .element .ensures) (turn .typ .given .1) in
-    term-counted (turn .before .before .before .loop .inv) step (c .match2 .keys1)
+    term-counted (turn .before .before .before .loop .inv) (step turn) (c .match2 .keys1)
 
 loop-less-2 : tie.Need-loop-less-2 Inv-loop μ-loop
-loop-less-2 c =
-    let turn = c .before .before in
-    let step = seen _ _ (turn .before .before .element .ensures) (turn .typ .given .1) in
-    omega (arith, step)
+loop-less-2 c = omega (arith, step (c .before .before))
 
 loop-again-2 : tie.Need-loop-again-2 Inv-loop μ-loop
 loop-again-2 c =
     let turn = c .before .before in
-    let step = seen _ _ (turn .before .before .element .ensures) (turn .typ .given .1) in
-    term-passed (turn .before .before .before .loop .inv) step (c .match2 .rest .1)
+    term-passed (turn .before .before .before .loop .inv) (step turn) (c .match2 .rest .1)
 
 returns : tie.Need-returns Inv-loop μ-loop
 unfolding optionOf

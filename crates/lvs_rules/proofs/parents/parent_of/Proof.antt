@@ -4,7 +4,7 @@ use Prim.Native.Nat.{_-_}
 use mathlib.Core.List.{[]}
 use lib.ListN.{length}
 use Rattle.tlv.specs.Fields.{integers}
-use Rattle.tlv.proofs.Cuts.{seen}
+use Rattle.tlv.proofs.Cuts.{seen, SeenOf}
 use Rattle.tlv.proofs.Gathered.{stop-end, stop-malformed, Gathered, listed, started}
 use Rattle.lvs_spec.specs.Types as type
 use Rattle.lvs_rules.proofs.Loops.{parent-first, no-parent, parent-none}
@@ -18,46 +18,37 @@ Inv-loop node place₀ place = Gathered listed (integers type.Parent) node (plac
 abbrev μ-loop : tie.MeasureT-loop
 μ-loop node place₀ place = length node - place .at
 
+-- at an element that was found
+module _ (c : tie.After-typ Inv-loop μ-loop) where
+  step : SeenOf _ _ (c .before .before .element .ensures) (c .typ .given .1)
+  step = seen _ _ (c .before .before .element .ensures) (c .typ .given .1)
+
 loop-holds : tie.Need-loop-holds Inv-loop μ-loop
 unfolding integers
 loop-holds c = started
 
 sub-number-of : tie.Need-sub-number-of Inv-loop μ-loop
-sub-number-of c =
-    let turn = c .before .before in
-    let step = seen _ _ (turn .before .before .element .ensures) (turn .typ .given .1) in
-    omega (arith, step)
+sub-number-of c = omega (arith, step (c .before .before))
 
 part-number-of-start : tie.Need-part-number-of-start Inv-loop μ-loop
-part-number-of-start c =
-    let turn = c .before .before in
-    let step = seen _ _ (turn .before .before .element .ensures) (turn .typ .given .1) in
-    omega (arith, step)
+part-number-of-start c = omega (arith, step (c .before .before))
 
 part-number-of-end : tie.Need-part-number-of-end Inv-loop μ-loop
-part-number-of-end c =
-    let turn = c .before .before in
-    let step = seen _ _ (turn .before .before .element .ensures) (turn .typ .given .1) in
-    omega (arith, step)
+part-number-of-end c = omega (arith, step (c .before .before))
 
 returns : tie.Need-returns Inv-loop μ-loop
 returns c =
     let parent = c .before .before .before in
     let turn = parent .before .before in
-    let step = seen _ _ (turn .before .before .element .ensures) (turn .typ .given .1) in
-    parent-first (turn .before .before .before .loop .inv) step (parent .if1 .taken) (c .before .number-of .ensures) (c .index-of .ensures)
+    parent-first (turn .before .before .before .loop .inv) (step turn) (parent .if1 .taken) (c .before .number-of .ensures) (c .index-of .ensures)
 
 loop-less : tie.Need-loop-less Inv-loop μ-loop
-loop-less c =
-    let turn = c .before .before in
-    let step = seen _ _ (turn .before .before .element .ensures) (turn .typ .given .1) in
-    omega (arith, step)
+loop-less c = omega (arith, step (c .before .before))
 
 loop-again : tie.Need-loop-again Inv-loop μ-loop
 loop-again c =
     let turn = c .before .before in
-    let step = seen _ _ (turn .before .before .element .ensures) (turn .typ .given .1) in
-    no-parent (turn .before .before .before .loop .inv) step (c .if1 .left)
+    no-parent (turn .before .before .before .loop .inv) (step turn) (c .if1 .left)
 
 returns-2 : tie.Need-returns-2 Inv-loop μ-loop
 returns-2 c = parent-none (c .before .before .before .loop .inv) (stop-end _ _ (c .before .before .element .ensures) (c .enum-told .given .1))
