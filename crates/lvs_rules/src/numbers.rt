@@ -10,7 +10,7 @@ use lvs_spec::types::NODE_ID;
 // Above every rule's number: none is broken.
 pub(crate) const NO_RULE: u32 = u32::MAX;
 
-// Rule 5: a Tag is 1 to 128.
+// Rule 5: a Tag is 1 to MAX_TAG.
 pub(crate) fn tag_rule(tag: u64) -> u32
     ensures { λ r. ⌜ r ≡ tagRule tag ⌝ }
 {
