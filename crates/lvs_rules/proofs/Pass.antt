@@ -1,7 +1,7 @@
 -- One pass over the Nodes that keeps the lowest rule broken and the first Node that breaks it finds what a pass for each rule of the table would.
 -- By induction over the table. Assumes nothing.
 use mathlib.Core.Path.{_≡_, refl, sym, ap, _∙_}
-use mathlib.Core.Bool.{Bool, true, false, cond, _||_, not}
+use mathlib.Core.Bool.{Bool, true, false, cond, _||_, not, or-false}
 use mathlib.Core.List.{List, [], _∷_, map}
 use mathlib.Core.Option.{Option, none, some}
 use Prim.Native.Nat.{ℕ, suc, _+_, _≤_, _<_}
@@ -116,10 +116,6 @@ any-never : {A : Type 0} (xs : List A) → any (λ x. false) xs ≡ false
 any-never [] = refl
 any-never (x ∷ xs) = any-never xs
 
-or-never : (b : Bool) → (b || false) ≡ b
-or-never true = refl
-or-never false = refl
-
 fault-same : {f g : ℕ → Node → Bool} → ((i : ℕ) (n : Node) → f i n ≡ g i n) → (i : ℕ) (ns : List Node) → firstFault f i ns ≡ firstFault g i ns
 unfolding firstFault
 fault-same h i [] = refl
@@ -130,13 +126,14 @@ unfolding firstFault
 fault-never i [] = refl
 fault-never i (n ∷ ns) = fault-never (suc i) ns
 
+-- the index that a fault names, where o is the first Node at fault and `outside` says whether there is a fault outside of the Nodes
 abbrev merged : Bool → Option ℕ → Bool → Option ℕ
 merged names none outside = somewhere outside
 merged names (some j) outside = some (cond names j 0)
 
-placed : (o : Option ℕ) → o ≡ merged true o false
-placed none = refl
-placed (some j) = refl
+named-alone : (o : Option ℕ) → o ≡ merged true o false
+named-alone none = refl
+named-alone (some j) = refl
 
 any-map : {A B : Type 0} (f : B → Bool) (g : A → B) (xs : List A) → any f (map g xs) ≡ any (λ x. f (g x)) xs
 any-map f g [] = refl
@@ -172,25 +169,25 @@ module _ (m : Model) where
 
   in-node : (t : Test) (f : ℕ → Node → Bool) → ((i : ℕ) (n : Node) → failsAt (asks t) i n ≡ f i n)
       → firstFault f 0 (m .nodes) ≡ merged true (inNodes t) (any (λ (s : Symbol). false) (m .symbols))
-  in-node t f h = rw (any-never (m .symbols), found-alone t f h) (placed (firstFault f 0 (m .nodes)))
+  in-node t f h = rw (any-never (m .symbols), found-alone t f h) (named-alone (firstFault f 0 (m .nodes)))
 
   fault-parts : (t : Test) → fault m t ≡ merged (asks t .names) (inNodes t) (failsOutside m (asks t))
   unfolding fault tags
   fault-parts (whole b) =
       let nowhere : inNodes (whole b) ≡ none = found-alone (whole b) (λ i n. false) (λ i n. simp any-never) ∙ fault-never 0 (m .nodes) in
-      rw (nowhere, any-never (m .symbols), or-never b)
+      rw (nowhere, any-never (m .symbols), or-false b)
   fault-parts (someTag f) =
       let outside = any f (map (λ (s : Symbol). s .tag) (m .symbols)) in
       rw (
         any-append f (each nodeTags (m .nodes)) (map (λ (s : Symbol). s .tag) (m .symbols)),
-        found-alone (someTag f) (λ i n. any f (nodeTags n)) (λ i n. simp (any-never, or-never)),
+        found-alone (someTag f) (λ i n. any f (nodeTags n)) (λ i n. simp (any-never, or-false)),
         ← any-map f (λ (s : Symbol). s .tag) (m .symbols),
       )
       (tags-merged f outside 0 (m .nodes))
-  fault-parts (someNode f) = in-node (someNode f) f (λ i n. simp any-never (or-never (f i n)))
-  fault-parts (someDestination f) = in-node (someDestination f) (λ i n. any (f i) (destinations n)) (λ i n. simp (any-never, or-never))
-  fault-parts (someSigner f) = in-node (someSigner f) (λ i n. any f (n .signers)) (λ i n. simp (any-never, or-never))
-  fault-parts (someOption f) = in-node (someOption f) (λ i n. any f (options n)) (λ i n. simp (any-never, or-never))
+  fault-parts (someNode f) = in-node (someNode f) f (λ i n. simp any-never (or-false (f i n)))
+  fault-parts (someDestination f) = in-node (someDestination f) (λ i n. any (f i) (destinations n)) (λ i n. simp (any-never, or-false))
+  fault-parts (someSigner f) = in-node (someSigner f) (λ i n. any f (n .signers)) (λ i n. simp (any-never, or-false))
+  fault-parts (someOption f) = in-node (someOption f) (λ i n. any f (options n)) (λ i n. simp (any-never, or-false))
   fault-parts (someCall f) = in-node (someCall f) (λ i n. any f (calls n)) (λ i n. simp any-never)
 
 -- ---- the first rule that is broken decides
