@@ -1,34 +1,21 @@
 -- Of a model that the verdict accepts, the count of its Nodes is the number that the verdict gives. Assumes nothing.
 use mathlib.Core.Path.{_≡_, refl, sym, ap, _∙_}
 use mathlib.Core.Bool.{Bool, true, false}
-use mathlib.Core.List.{List, [], _∷_}
-use mathlib.Core.Option.{Option, none, some}
+use mathlib.Core.List.{List}
 use Prim.Native.Nat.{ℕ}
-use native.Mathlib.Omega.{arith}
 use lib.ListN.{length, length-map}
 use Rattle.tlv.specs.Element.{cuts}
+use Rattle.tlv.specs.Fields.{insides}
 use Rattle.tlv.proofs.RoundTrip.{split-nexts}
 use Rattle.tlv_reader.specs.declared.Count.the-variants.{Elements}
 use Rattle.tlv_reader.specs.Count.{countOf}
 use Rattle.lvs_spec.specs.Types as type
 use Rattle.lvs_spec.specs.Grammar.{model, order}
 use Rattle.lvs_spec.specs.WellFormed.{tooLong, otherVersion, wellFormed, wellFormedBy}
-use Rattle.tlv.specs.Fields.{insides}
 use Rattle.lvs_spec.specs.Model.{nodeOf, modelOf}
-use Rattle.lvs_spec.specs.Verdict.{accepted, refused, decide, rules, judge, reading, verdict}
+use Rattle.lvs_spec.specs.Verdict.{accepted, reading, verdict}
 use Rattle.lvs_spec.proofs.Grammar.{Row, row}
-
-not-refused : (r i n : ℕ) → refused r i ≡ accepted n → ⊥
-not-refused r i n p = let z : _≡_ {A = ℕ} 0 1 = cc in omega arith
-
-decide-count : (rs : List (ℕ × Option ℕ)) (count n : ℕ) → decide rs count ≡ accepted n → count ≡ n
-unfolding decide
-decide-count [] count n h = cc
-decide-count (r ∷ rs) count n h = go (r .1) refl (decide-count rs count n)
-  where
-    go : (o : Option ℕ) → r .1 ≡ o → (decide rs count ≡ accepted n → count ≡ n) → count ≡ n
-    go none q rec = rec (rw (q, decide) at h)
-    go (some i) q rec = absurd (not-refused (r .0) i n (rw (q, decide) at h))
+use Rattle.lvs_spec.proofs.Rules.{not-refused, judge-count}
 
 -- what an accepted model is
 record Good (b : List ℕ) (n : ℕ) : Type 0 where
@@ -36,14 +23,14 @@ record Good (b : List ℕ) (n : ℕ) : Type 0 where
   count : length (modelOf b .nodes) ≡ n
 
 good : (b : List ℕ) (n : ℕ) → verdict b ≡ accepted n → Good b n
-unfolding verdict reading judge
+unfolding verdict reading
 good b n h = go (tooLong b) (otherVersion b) (wellFormed b) refl refl refl
   where
     go : (x y z : Bool) → tooLong b ≡ x → otherVersion b ≡ y → wellFormed b ≡ z → Good b n
-    go true y z p q r = absurd (not-refused 1 0 n (rw (p, verdict, reading) at h))
-    go false true z p q r = absurd (not-refused 3 0 n (rw (p, q, verdict, reading) at h))
-    go false false false p q r = absurd (not-refused 2 0 n (rw (p, q, r, verdict, reading) at h))
-    go false false true p q r = record { formed = r; count = decide-count (rules (modelOf b)) _ n (rw (p, q, r, verdict, reading) at h) }
+    go true y z p q r = absurd (not-refused (rw (p, verdict, reading) at h))
+    go false true z p q r = absurd (not-refused (rw (p, q, verdict, reading) at h))
+    go false false false p q r = absurd (not-refused (rw (p, q, r, verdict, reading) at h))
+    go false false true p q r = record { formed = r; count = judge-count (modelOf b) (rw (p, q, r, verdict, reading) at h) }
 
 -- THE COUNT IS THE VERDICT'S
 pub accepted-count : (b : List ℕ) (n : ℕ) → verdict b ≡ accepted n → countOf type.Node b ≡ Elements n

@@ -3,14 +3,13 @@ use mathlib.Core.Path.{_≡_, refl, sym, ap, _∙_}
 use mathlib.Core.Logic.{_⊎_, inl, inr, ⊎-elim}
 use mathlib.Core.Bool.{Bool, true, false, _&&_, _||_, or-false, and-true}
 use mathlib.Core.List.{List, [], _∷_, _++_, map, foldl, append-assoc, append-nil, foldl-append}
-use mathlib.Core.Option.{none, some}
 use Prim.Native.Nat.{ℕ, _+_, _-_, _≤_, _<_}
 use native.Mathlib.Omega.{arith}
 use lib.Dec.{eqb}
 use borrow.Author.Tests.{eq-eqb, ne-eqb}
 use lib.ListN.{length, take, drop, length-append}
 use Rattle.tlv.specs.Element.{Element, done, broken, cuts}
-use Rattle.tlv.specs.Lists.{when, any, all, first}
+use Rattle.tlv.specs.Lists.{when, any, all}
 use Rattle.tlv.specs.Fields.{eachCut, insideOf, insides}
 use Rattle.tlv.specs.declared.Place.{Place}
 use Rattle.tlv.specs.declared.Read.{Read}
@@ -249,21 +248,3 @@ insides-most k s = each-most (insideOf k) few s
         go : (b : Bool) → length (when b (e .inside)) ≤ 1
         go true = omega arith
         go false = omega arith
-
--- ---- the first that f gives (to be replaced by `listed`)
-
--- the invariant of a search: from this place on it finds what it finds in the whole
-pub record Searching {A : Type 0} (f : Element → List A) (s : List ℕ) (at : ℕ) : Type 0 where
-  pub same : first (eachCut f (cuts (drop at s))) ≡ first (eachCut f (cuts s))
-
-module _ {A : Type 0} {f : Element → List A} {s : List ℕ} {at : ℕ} (inv : Searching f s at) where
-  module _ {t start stop : ℕ} {n : Place} (st : Step s at t start stop n) where
-    pub search-here : {x : A} {xs : List A} → f (record { type = t; inside = take (stop - start) (drop start s) }) ≡ x ∷ xs
-        → first (eachCut f (cuts s)) ≡ some x
-    search-here e = sym (inv .same) ∙ ap first (each-found f st) ∙ rw e
-
-    pub search-on : f (record { type = t; inside = take (stop - start) (drop start s) }) ≡ [] → Searching f s (n .at)
-    search-on e = record { same = sym (ap first (each-found f st) ∙ rw e) ∙ inv .same }
-
-  pub search-none : Stop s at → first (eachCut f (cuts s)) ≡ none
-  search-none st = sym (inv .same) ∙ ap first (each-stop f st)
