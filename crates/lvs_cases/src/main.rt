@@ -27,7 +27,7 @@ const WORD_BYTES: usize = 4096;
 // For what is read ahead, for a model, and for lines that are not written yet.
 type Buffer = [u8; 65536];
 
-// Where input and output stand behind a case, and whether it was a whole one.
+// Where input and output stand after a case, and whether it was a whole one.
 struct Turn {
     is_whole: bool,
     input: Input,

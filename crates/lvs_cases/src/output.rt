@@ -4,7 +4,7 @@ ghost use lib.ListN.{length};
 use crate::Buffer;
 use libc::STDOUT_FILENO;
 
-// Puts text behind what is there, and answers how much is used then.
+// Appends text, and answers how much is used then.
 pub fn put(out: &mut Buffer, used: usize, text: &[u8]) -> usize
     requires { ⌜ used ≤ 65536 ⌝ }
     ensures { λ r. ⌜ r ≤ 65536 ⌝ }
