@@ -56,7 +56,7 @@ fn answer_input(space: &mut Buffer, model: &mut [u8], out: &mut Buffer) {
     output::flush(out, used);
 }
 
-// Nothing says that the input ends, so the loop counts its turns down, from a number that no run uses up.
+// Nothing bounds the input, so the loop counts its turns down, from a number that no run exhausts.
 fn answer_cases(space: &mut Buffer, model: &mut [u8], out: &mut Buffer) -> usize
     ensures { λ r. ⌜ r ≤ 65536 ⌝ }
 {

@@ -1,4 +1,4 @@
-// Standard output, gathered in a buffer that is lent; `used` of its bytes are not written yet.
+// Standard output through a lent buffer, of which `used` bytes are not written yet.
 ghost use Prim.Native.Nat.{_≤_, _<_};
 ghost use lib.ListN.{length};
 use crate::Buffer;

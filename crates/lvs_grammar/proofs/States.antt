@@ -142,7 +142,7 @@ slot-any k t lo hi next q h = go (ltb q (length (order k))) refl
         let b : hi < length (order k) = ltb-true _ _ (f .0) in
         slot-behind k t lo hi next q (omega arith) l
 
--- THE LAW OF A SLOT
+-- the law of a slot
 pub slot-step : (k : Kind) {t lo hi next q typ : ℕ} {r : Next} → typ ≡ t → Slotted q lo hi next r → fits (order k) t lo hi next ≡ true
     → leftBehind k r ≡ step (drop q (order k)) typ
 slot-step k {t} {lo} {hi} {next} {q} e f h = rw (e, f .is) (slot-any k t lo hi next q h)
@@ -165,7 +165,7 @@ endsAt items n q = same (leb n q) (final (drop q items))
 abbrev pub ends : List Item → ℕ → Bool
 ends items n = leb n (length items) && allBelow (length items) (endsAt items n)
 
--- THE LAW OF AN END
+-- the law of an end
 pub end-final : (k : Kind) (n q : ℕ) → ends (order k) n ≡ true → leb n q ≡ final (drop q (order k))
 unfolding final
 end-final k n q h = go (ltb q (length (order k))) refl
