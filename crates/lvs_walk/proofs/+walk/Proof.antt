@@ -83,7 +83,8 @@ at N t = N (calls t) (walk-at t) walk.Post Inv μ
 abbrev start : (t : ℕ) → at walk-lts.After-component-at t → at walk-lts.Start t
 start t c = c .before .before .before .before .before
 
-within : (t : ℕ) (c : at walk-lts.Start t) → Within (c .args .model .now) (c .args .places .now) (c .args .packet .now) (c .args .key .now) (c .args .slots .now)
+within : (t : ℕ) (c : at walk-lts.Start t)
+    → Within (c .args .model .now) (c .args .places .now) (c .args .packet .now) (c .args .key .now) (c .args .slots .now)
 within t c = c .pre .1 .0
 
 -- no component is left
@@ -219,13 +220,19 @@ returns-5 t c =
     (turn-none (l .loop .inv) (c .before .before .edge-from .ensures) (c .enum-told3 .given .1))
 
 sub-cross : (t : ℕ) → at walk-lts.Need-sub-cross t
-sub-cross t c = edge-at (c .before .before .before .before .loop .inv) (c .before .before .before .edge-from .ensures) (c .before .pattern .given .1) .order
+sub-cross t c =
+    let read = c .before .before .before in
+    edge-at (read .before .loop .inv) (read .edge-from .ensures) (c .before .pattern .given .1) .order
 
 part-cross-start : (t : ℕ) → at walk-lts.Need-part-cross-start t
-part-cross-start t c = edge-at (c .before .before .before .before .loop .inv) (c .before .before .before .edge-from .ensures) (c .before .pattern .given .1) .order
+part-cross-start t c =
+    let read = c .before .before .before in
+    edge-at (read .before .loop .inv) (read .edge-from .ensures) (c .before .pattern .given .1) .order
 
 part-cross-end : (t : ℕ) → at walk-lts.Need-part-cross-end t
-part-cross-end t c = edge-at (c .before .before .before .before .loop .inv) (c .before .before .before .edge-from .ensures) (c .before .pattern .given .1) .within
+part-cross-end t c =
+    let read = c .before .before .before in
+    edge-at (read .before .loop .inv) (read .edge-from .ensures) (c .before .pattern .given .1) .within
 
 cross-requires : (t : ℕ) → at walk-lts.Need-cross-requires t
 cross-requires t c κs =
