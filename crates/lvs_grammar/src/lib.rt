@@ -1,4 +1,4 @@
-// Refusals 1 to 3 of document 01: whether a model is too long, of another version, malformed, or readable.
+// Refusals 1 to 3 (docs/format.md, 5): whether a model is too long, of another version, malformed, or readable.
 mod leaves;
 mod order;
 mod types;
@@ -33,7 +33,7 @@ pub enum Reading {
     Readable,
 }
 
-// Each test covers the whole model before the next begins, save that another version outranks any fault behind Version.
+// Each test covers the whole model before the next begins, save that another version outranks any fault after Version.
 pub fn read_model(model: &[u8]) -> Reading
     ensures { λ r. ⌜ r ≡ readingOf (now (model .entry)) ⌝ }
 {
