@@ -7,7 +7,7 @@ use Rattle.lvs_spec.specs.Answers.{matchRefused}
 use Rattle.lvs_names.specs.Answers.{nameRead}
 use Rattle.lvs_names.specs.Rows.{rowFrom}
 use Rattle.lvs_walk.proofs.Answers.{found-none, found-match}
-use Rattle.lvs.specs.Readings.{verdictOf}
+use Rattle.lvs.specs.Answers.{verdictOf}
 use Rattle.lvs.proofs.Calls.{walkable, name-short, match-refused, match-bad-name, match-no-room, match-none, match-some}
 use Rattle.lvs.proofs.match_name.Statement.{statement}
 use Rattle.lvs.proofs.match_name.Tie as tie

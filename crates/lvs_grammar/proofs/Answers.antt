@@ -8,7 +8,7 @@ use Rattle.lvs_spec.specs.WellFormed.{tooLong, otherVersion, wellFormed}
 use Rattle.lvs_spec.specs.Verdict.{reading}
 use Rattle.lvs_grammar.specs.declared.Reading.{Reading}
 use Rattle.lvs_grammar.specs.declared.Reading.the-variants.{TooLong, OtherVersion, Malformed, Readable}
-use Rattle.lvs_grammar.specs.Readings.{readingOf, means}
+use Rattle.lvs_grammar.specs.Answers.{readingOf, means}
 
 reading-means : (b : List ℕ) → reading b ≡ means (readingOf b) b
 unfolding reading readingOf
