@@ -9,15 +9,16 @@ use borrow.Author.Tests.{lt-ltb, le-ltb, ltb-false}
 use lib.Dec.{ltb}
 use lib.ListN.{length, drop, length-map}
 use Rattle.tlv.specs.Lists.{first}
-use Rattle.lvs_spec.specs.Limits.{maxModelBytes, maxNodes, maxNameBytes, bindingWords}
+use Rattle.lvs_spec.specs.Limits.{maxModelBytes, maxNameBytes, bindingWords}
 use Rattle.lvs_spec.specs.Types as type
 use Rattle.lvs_spec.specs.WellFormed.{tooLong, otherVersion, wellFormed}
 use Rattle.lvs_spec.specs.Model.{Model, nodeOf, modelOf}
 use Rattle.tlv.specs.Fields.{insides}
-use Rattle.lvs_spec.specs.Verdict.{Verdict, unreadable, describes, reading, rules, decide, judge, verdict}
+use Rattle.lvs_spec.specs.Verdict.{Verdict, unreadable, describes, reading, judge, verdict}
 use Rattle.lvs_spec.specs.Names.{Component, badName, goodName, nameReading, packetName, keyName}
 use Rattle.lvs_spec.specs.Walk.{Bindings, packetMatches, pairs}
 use Rattle.lvs_spec.specs.Answers.{MatchAnswer, SignAnswer, plain, words, boundCount, matchFound, matchRoom, matchName, matchIn, matchOutcome, pairFound, signNames, signIn, signAnswer}
+use Rattle.lvs_spec.proofs.Rules.{judge-few}
 use Rattle.lvs_spec.proofs.Usable.{accepted-usable, refused-unusable}
 use Rattle.lvs_walk.specs.Calls.{Small}
 
@@ -42,14 +43,6 @@ accepted-short b {n} h = go (tooLong b) refl
         let z : _≡_ {A = ℕ} 0 1 = cc in absurd (omega arith)
     go false p = ltb-false maxModelBytes (length b) p
 
-judged-few : (m : Model) {n : ℕ} → judge m ≡ Verdict.accepted n → length (m .nodes) ≤ maxNodes
-unfolding judge rules decide
-judged-few m {n} h = go (ltb maxNodes (length (m .nodes))) refl
-  where
-    go : (t : Bool) → ltb maxNodes (length (m .nodes)) ≡ t → length (m .nodes) ≤ maxNodes
-    go true p = let h′ : Verdict.refused 4 0 ≡ Verdict.accepted n = rw (p, decide) at h in let z : _≡_ {A = ℕ} 0 1 = cc in absurd (omega arith)
-    go false p = ltb-false maxNodes (length (m .nodes)) p
-
 read-judged : (b : List ℕ) {n : ℕ} → verdict b ≡ Verdict.accepted n → judge (modelOf b) ≡ Verdict.accepted n
 unfolding verdict reading
 read-judged b {n} h = go (tooLong b) (otherVersion b) (wellFormed b) refl refl refl
@@ -70,7 +63,7 @@ unfolding modelOf
 small b h =
     record {
       short = accepted-short b h;
-      few = omega (arith, judged-few (modelOf b) (read-judged b h), length-map (insides type.Node b) nodeOf);
+      few = omega (arith, judge-few (modelOf b) (read-judged b h), length-map (insides type.Node b) nodeOf);
     }
 
 -- ---- names

@@ -41,7 +41,7 @@ pub fn judge_model(model: &[u8]) -> Verdict
         Reading::TooLong => Verdict::Refused { number: 1, node: 0 },
         Reading::Malformed => Verdict::Refused { number: 2, node: 0 },
         Reading::OtherVersion => Verdict::Refused { number: 3, node: 0 },
-        Reading::Readable => match lvs_rules::judge(model) {
+        Reading::Readable => match lvs_rules::check_rules(model) {
             Judged::Accepted { nodes } => Verdict::Accepted { nodes },
             Judged::Refused { rule, node } => Verdict::Refused { number: rule, node },
         },

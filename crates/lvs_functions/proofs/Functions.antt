@@ -23,13 +23,13 @@ unfolding functionIn
 none-left b = refl
 
 -- the four names: $eq, $eq_type, $isValidID, $isValidYear
-abbrev eqName : List ℕ
+abbrev pub eqName : List ℕ
 eqName = 36 ∷ 101 ∷ 113 ∷ []
 
-abbrev eqTypeName : List ℕ
+abbrev pub eqTypeName : List ℕ
 eqTypeName = 36 ∷ 101 ∷ 113 ∷ 95 ∷ 116 ∷ 121 ∷ 112 ∷ 101 ∷ []
 
-abbrev idName : List ℕ
+abbrev pub idName : List ℕ
 idName = 36 ∷ 105 ∷ 115 ∷ 86 ∷ 97 ∷ 108 ∷ 105 ∷ 100 ∷ 73 ∷ 68 ∷ []
 
 abbrev yearName : List ℕ

@@ -11,7 +11,7 @@ use lib.ListN.{length, getD, take, drop, length-drop, drop-of-length-le}
 use lib.Seq.{drop-cons, take-all}
 use Rattle.tlv.specs.Number.{integerSize, integer}
 use Rattle.tlv.specs.Element.{Element, First, end, malformed, first, element}
-use Rattle.tlv.specs.Reading.{readAt, readFrom, integerOf}
+use Rattle.tlv.specs.Answers.{readAt, readFrom, integerOf}
 use Rattle.tlv.specs.declared.IntegerRead.{IntegerRead}
 use Rattle.tlv.specs.declared.IntegerRead.the-variants.{Integer, OtherSize}
 use Rattle.tlv.specs.declared.Read.{Read}

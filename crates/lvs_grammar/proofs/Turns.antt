@@ -7,7 +7,7 @@ use mathlib.Core.Option.{some}
 use native.Mathlib.Omega.{arith}
 use lib.ListN.{take, drop}
 use Rattle.tlv.specs.Element.{Element, Cuts, next, cuts}
-use Rattle.tlv.specs.Reading.{readAt}
+use Rattle.tlv.specs.Answers.{readAt}
 use Rattle.tlv.specs.declared.Place.{Place}
 use Rattle.tlv.specs.declared.Read.{Read}
 use Rattle.tlv.specs.declared.Read.the-variants.{Found, End, Malformed}

@@ -2,7 +2,7 @@
 use Prim.Native.Nat.{ℕ, _+_, _-_, _≤_, _<_}
 use mathlib.Core.Path.{_≡_, refl, sym, ap, _∙_}
 use mathlib.Core.Bool.{Bool, true, false, cond, _&&_}
-use mathlib.Core.List.{List, [], _∷_}
+use mathlib.Core.List.{List, [], _∷_, foldl}
 use mathlib.Core.Option.{Option, none, some, Option·some-injective}
 use native.Mathlib.Omega.{arith}
 use borrow.Author.Tests.{eq-eqb, ne-eqb, le-leb, lt-leb, lt-ltb, le-ltb, eqb-true}
@@ -14,6 +14,7 @@ use Rattle.tlv.specs.Element.{Element, First, end, malformed, first, element, C
 use Rattle.tlv.specs.declared.Place.{Place}
 use Rattle.tlv.proofs.Cuts.{Step, element-whole}
 use Rattle.tlv.proofs.RoundTrip.{step-size}
+use Rattle.tlv.proofs.Gathered.{GatheredFrom, folded, took, settled, ended}
 use Rattle.tlv.specs.Lists.{bind, guard}
 use Rattle.lvs_spec.specs.Limits.{maxComponentType, maxComponents, maxNameBytes}
 use Rattle.lvs_spec.specs.Types as type
@@ -21,7 +22,7 @@ use Rattle.lvs_spec.specs.Leaves.{isComponent}
 use Rattle.lvs_spec.specs.Model.{componentFrom, componentOf}
 use Rattle.lvs_spec.specs.Names.{Component, componentsAt, nameFrom, nameOf, badName, goodName, rowReading, nameReading}
 use Rattle.lvs_names.specs.Rows.{rowAt, rowFrom}
-use Rattle.lvs_names.specs.Reading.{headerFrom, headerOf, countedFrom, countOf}
+use Rattle.lvs_names.specs.Answers.{headerFrom, headerOf, countedFrom, countOf}
 use Rattle.lvs_names.specs.Contents.{ContentOf, RowStep}
 use Rattle.lvs_names.specs.declared.Content.{Content}
 use Rattle.lvs_names.specs.declared.Counted.{Counted}
@@ -59,45 +60,66 @@ module _ {b : List ℕ} {typ start stop : ℕ} {p : Place} (f : Step b 0 typ sta
 
 -- ---- counting
 
-pub count-none : (n at : ℕ) (b : List ℕ) → cuts (drop at b) ≡ done → countedFrom n (componentsAt at (cuts (drop at b))) ≡ Components n
-unfolding componentsAt countedFrom
-count-none n at b p = rw p (ap Components (omega arith))
+-- the elements of a list, and `none` where it breaks off
+unfoldable pub marked : Cuts → List (Option Element)
+marked done = []
+marked broken = none ∷ []
+marked (next e rest) = some e ∷ marked rest
 
-pub count-broken : (n at : ℕ) (b : List ℕ) → cuts (drop at b) ≡ broken → countedFrom n (componentsAt at (cuts (drop at b))) ≡ Malformed
-unfolding componentsAt countedFrom
-count-broken n at b p = rw p
+abbrev pub marks : List ℕ → List (Option Element)
+marks b = marked (cuts b)
 
--- one component in front of what o says
-added : ℕ → Element → Option (List Component) → Option (List Component)
-added at e o = bind o λ cs. guard (isComponent e) (record { start = at; size = length (elementBytes e); content = e } ∷ cs)
+-- a count, and one of them more
+unfoldable pub counts : Counted → Option Element → Counted
+counts Malformed o = Malformed
+counts (Components n) none = Malformed
+counts (Components n) (some e) = cond (isComponent e) (Components (n + 1)) Malformed
 
-added-large : (n at : ℕ) (e : Element) (o : Option (List Component)) → isComponent e ≡ false → countedFrom n (added at e o) ≡ Malformed
-unfolding added countedFrom
-added-large n at e none h = refl
-added-large n at e (some cs) h = rw h
+no-count : (xs : List (Option Element)) → foldl counts Malformed xs ≡ Malformed
+unfolding counts
+no-count [] = refl
+no-count (x ∷ xs) = no-count xs
 
-added-one : (n at : ℕ) (e : Element) (o : Option (List Component)) → isComponent e ≡ true → countedFrom n (added at e o) ≡ countedFrom (n + 1) o
-unfolding added countedFrom
-added-one n at e none h = refl
-added-one n at e (some cs) h = rw h (ap Components (omega arith))
+counted-marks : (n at : ℕ) (c : Cuts) → foldl counts (Components n) (marked c) ≡ countedFrom n (componentsAt at c)
+unfolding marked counts countedFrom componentsAt
+counted-marks n at done = ap Components (omega arith)
+counted-marks n at broken = refl
+counted-marks n at (next e rest) =
+    go (isComponent e) (componentsAt (at + length (elementBytes e)) rest) (λ m. counted-marks m (at + length (elementBytes e)) rest)
+  where
+    go : (t : Bool) (o : Option (List Component)) → ((m : ℕ) → foldl counts (Components m) (marked rest) ≡ countedFrom m o)
+        → foldl counts (cond t (Components (n + 1)) Malformed) (marked rest)
+        ≡ countedFrom n (bind o λ cs. guard t (record { start = at; size = length (elementBytes e); content = e } ∷ cs))
+    go true none ih = ih (n + 1)
+    go true (some cs) ih = ih (n + 1) ∙ ap Components (omega arith)
+    go false none ih = no-count (marked rest)
+    go false (some cs) ih = no-count (marked rest)
 
-module _ {b : List ℕ} {at typ start stop : ℕ} {p : Place} (bytes : Bytes b) (f : Step b at typ start stop p) where
-  abbrev here : Element
-  here = record { type = typ; inside = take (stop - start) (drop start b) }
+module _ {name : List ℕ} {from at n : ℕ} (inv : GatheredFrom (folded counts (Components 0)) marks name from at (Components n)) where
+  answer : {r : Counted} → r ≡ foldl counts (Components 0) (marks (drop from name)) → r ≡ countOf name from
+  unfolding countOf
+  answer e = e ∙ counted-marks 0 from (cuts (drop from name))
 
-  components-is : componentsAt at (cuts (drop at b)) ≡ added at here (componentsAt (p .at) (cuts (drop (p .at) b)))
-  unfolding componentsAt added
-  components-is =
-      let e : at + length (elementBytes here) ≡ p .at = omega (arith, step-size bytes f, f .moved, f .before, f .order) in
-      rw (f .cut-is, e)
+  module _ {typ start stop : ℕ} {p : Place} (st : Step name at typ start stop p) where
+    mark-found : marks (drop at name) ≡ some (record { type = typ; inside = take (stop - start) (drop start name) }) ∷ marks (drop (p .at) name)
+    unfolding marked
+    mark-found = rw (st .cut-is)
 
-  pub count-large : (n : ℕ) → maxComponentType < typ → countedFrom n (componentsAt at (cuts (drop at b))) ≡ Malformed
-  unfolding isComponent
-  count-large n h = rw components-is (added-large n at here _ (lt-leb typ maxComponentType h))
+    pub count-large : maxComponentType < typ → Malformed ≡ countOf name from
+    unfolding isComponent counts
+    count-large h = answer (settled inv mark-found (rw (lt-leb typ maxComponentType h)) (λ y. refl))
 
-  pub count-one : (n : ℕ) → typ ≤ maxComponentType → countedFrom n (componentsAt at (cuts (drop at b))) ≡ countedFrom (n + 1) (componentsAt (p .at) (cuts (drop (p .at) b)))
-  unfolding isComponent
-  count-one n h = rw components-is (added-one n at here _ (le-leb typ maxComponentType h))
+    pub count-one : typ ≤ maxComponentType → GatheredFrom (folded counts (Components 0)) marks name from (p .at) (Components (n + 1))
+    unfolding isComponent counts
+    count-one h = took inv mark-found (rw (le-leb typ maxComponentType h))
+
+  pub count-none : cuts (drop at name) ≡ done → Components n ≡ countOf name from
+  unfolding marked
+  count-none e = answer (ended inv (rw e))
+
+  pub count-broken : cuts (drop at name) ≡ broken → Malformed ≡ countOf name from
+  unfolding marked counts
+  count-broken e = answer (settled inv {x = none} {rest = []} (rw e) refl (λ y. refl))
 
 -- ---- a component that a slice begins with
 
@@ -109,7 +131,8 @@ pub content-malformed : (b : List ℕ) → element (drop 0 b) ≡ malformed → 
 unfolding componentOf componentFrom
 content-malformed b p = record { order = omega arith; within = omega arith; is = rw p }
 
-pub content-found : {b : List ℕ} {typ start stop : ℕ} {p : Place} → Step b 0 typ start stop p → ContentOf b (record { typ = typ; start = start; end = stop })
+pub content-found : {b : List ℕ} {typ start stop : ℕ} {p : Place} → Step b 0 typ start stop p
+    → ContentOf b (record { typ = typ; start = start; end = stop })
 unfolding componentOf componentFrom
 content-found f = record { order = f .order; within = f .within; is = rw (f .first-is) }
 
@@ -210,7 +233,8 @@ module _ (b : List ℕ) where
       headless h = named (no-header h)
 
       module _ {r : Counted} (some-header : 0 < headerOf b) (counted : r ≡ countOf b (headerOf b)) where
-        counted-is : (o : Option (List Component)) → componentsAt (headerOf b) (cuts (drop (headerOf b) b)) ≡ o → (r ≡ countedFrom 0 o) × (nameReading base b ≡ rowReading base o)
+        counted-is : (o : Option (List Component)) → componentsAt (headerOf b) (cuts (drop (headerOf b) b)) ≡ o
+            → (r ≡ countedFrom 0 o) × (nameReading base b ≡ rowReading base o)
         unfolding countOf
         counted-is o p = (counted ∙ rw p, named (header-name some-header ∙ p))
 
@@ -237,9 +261,11 @@ module _ (b : List ℕ) where
         unfolding countedFrom rowReading rowFrom
         good-name n e h = go (componentsAt (headerOf b) (cuts (drop (headerOf b) b))) refl
           where
-            go : (o : Option (List Component)) → componentsAt (headerOf b) (cuts (drop (headerOf b) b)) ≡ o → nameReading base b ≡ goodName (rowAt (headerOf b) (cuts (drop (headerOf b) b)))
+            go : (o : Option (List Component)) → componentsAt (headerOf b) (cuts (drop (headerOf b) b)) ≡ o
+                → nameReading base b ≡ goodName (rowAt (headerOf b) (cuts (drop (headerOf b) b)))
             go none p = let x = counted-is none p .0 in let z : _≡_ {A = ℕ} 0 1 = cc in absurd (omega arith)
             go (some cs) p =
                 let x = counted-is (some cs) p .0 in
                 let y : n ≡ 0 + length cs = cc in
-                counted-is (some cs) p .1 ∙ rw (le-ltb maxComponents (length cs) (omega arith)) (ap goodName (sym (row-same (headerOf b) (cuts (drop (headerOf b) b)) cs p)))
+                counted-is (some cs) p .1 ∙
+                rw (le-ltb maxComponents (length cs) (omega arith)) (ap goodName (sym (row-same (headerOf b) (cuts (drop (headerOf b) b)) cs p)))

@@ -8,7 +8,7 @@ ghost use lib.Dec.{eqb};
 ghost use lib.ListN.{length};
 ghost use Rattle.lvs_spec.specs.Model.{componentOf};
 ghost use Rattle.lvs_spec.specs.Names.{same, nameReading};
-ghost use Rattle.lvs_names.specs.Reading.{nameRead, headerOf, countOf};
+ghost use Rattle.lvs_names.specs.Answers.{nameRead, headerOf, countOf};
 ghost use Rattle.lvs_names.specs.Contents.{ContentOf, Alone, ComponentAt};
 use tlv::Place;
 use tlv::Read;
@@ -133,7 +133,7 @@ pub fn component_at(name: &[u8], at: usize) -> ComponentRead
     }
 }
 
-// The component that a slice begins with; where there is none, type 0 and no bytes.
+// The component that a slice begins with; where there is none, type 0 and no bytes. The contract leaves open where that empty part lies.
 pub fn read_component(s: &[u8]) -> Content
     ensures { λ r. ⌜ ContentOf (now (s .entry)) r ⌝ }
 {

@@ -16,7 +16,8 @@ use Rattle.lvs_spec.specs.Verdict.{Function as Known, eq, eqType, isValidId, is
 use Rattle.lvs_functions.specs.Functions.{functionRead}
 use Rattle.lvs_functions.specs.declared.Function.{Function}
 use Rattle.lvs_functions.specs.declared.Function.the-variants.{Eq, EqType, IsValidId, IsValidYear, Unknown}
-use Rattle.lvs_rules.specs.Lowest.{noRule, broken, leastOf, tagRule, argumentRule, callRule, termRule, optionRule, constraintRule, signerRule, destinationRule, valueEdgeRule, patternEdgeRule, nodeRule, symbolRule}
+use Rattle.lvs_rules.specs.Lowest.{noRule, broken, leastOf, tagRule, argumentRule, argumentsRule, callRule, termRule, termsRule}
+use Rattle.lvs_rules.specs.Lowest.{optionRule, constraintRule, ownRule, signerRule, destinationRule, valueEdgeRule, patternEdgeRule, nodeRule, symbolRule}
 use Rattle.lvs_rules.specs.Sorts.{typeOf, itemRule}
 use Rattle.lvs_rules.specs.declared.Sort.{Sort}
 use Rattle.lvs_rules.specs.declared.Sort.the-variants as sort
@@ -39,11 +40,12 @@ bad-by (some eqType) n = refl
 bad-by (some isValidId) n = refl
 bad-by (some isValidYear) n = refl
 
-pub bad-call : (b : List ℕ) {name : List ℕ} {n r : ℕ} {f k : Function} → name ≡ theInside type.FnId b → n ≡ length (insides type.UserFnArg b) → f ≡ functionRead (functionOf name)
-    → f ≡ k → r ≡ broken 12 (badBy k n) → r ≡ broken 12 (badCall (callOf b))
-unfolding badCall callOf
+pub bad-call : (b : List ℕ) {name : List ℕ} {n r : ℕ} {f k : Function} → name ≡ theInside type.FnId b → n ≡ length (insides type.UserFnArg b)
+    → f ≡ functionRead (functionOf name) → f ≡ k → r ≡ broken 12 (badBy k n) → r ≡ argumentsRule (callOf b)
+unfolding argumentsRule badCall callOf
 bad-call b {name} {n} {r} {f} {k} p q g h e =
-    let z : badCall (callOf b) ≡ badBy k n = rw (length-map (insides type.UserFnArg b) argumentOf, ← q, ← p) (bad-by (functionOf name) n ∙ ap (λ (x : Function). badBy x n) (sym g ∙ h)) in
+    let z : badCall (callOf b) ≡ badBy k n =
+    rw (length-map (insides type.UserFnArg b) argumentOf, ← q, ← p) (bad-by (functionOf name) n ∙ ap (λ (x : Function). badBy x n) (sym g ∙ h)) in
     e ∙ ap (broken 12) (sym z)
 
 -- ---- an option's Tags and calls
@@ -78,15 +80,22 @@ term-parts e =
     let tags = when (eqb type.Tag (e .type)) (Term.tag (numberOf x)) in
     let calls = when (eqb type.UserFnCall (e .type)) (Term.call (callOf x)) in
     least-append termRule (values ++ tags) calls ∙
-    rw (least-append termRule values tags, value-part x (eqb type.Value (e .type)), min-eq-right (least-most termRule tags)) (rw (tag-part x (eqb type.Tag (e .type)), call-part x (eqb type.UserFnCall (e .type))))
+    rw (least-append termRule values tags, value-part x (eqb type.Value (e .type)), min-eq-right (least-most termRule tags))
+    (rw (tag-part x (eqb type.Tag (e .type)), call-part x (eqb type.UserFnCall (e .type))))
 
-terms-parts : (c : Cuts) → leastOf termRule (eachCut termFrom c) ≡ min (leastOf tagIn (eachCut (insideOf type.Tag) c)) (leastOf callIn (eachCut (insideOf type.UserFnCall) c))
+terms-parts : (c : Cuts)
+    → leastOf termRule (eachCut termFrom c) ≡ min (leastOf tagIn (eachCut (insideOf type.Tag) c)) (leastOf callIn (eachCut (insideOf type.UserFnCall) c))
 unfolding eachCut leastOf
 terms-parts done = refl
 terms-parts torn = refl
 terms-parts (next e c) =
     least-append termRule (termFrom e) (eachCut termFrom c) ∙
-    rw (term-parts e, terms-parts c, least-append tagIn (insideOf type.Tag e) (eachCut (insideOf type.Tag) c), least-append callIn (insideOf type.UserFnCall e) (eachCut (insideOf type.UserFnCall) c))
+    rw (
+      term-parts e,
+      terms-parts c,
+      least-append tagIn (insideOf type.Tag e) (eachCut (insideOf type.Tag) c),
+      least-append callIn (insideOf type.UserFnCall e) (eachCut (insideOf type.UserFnCall) c),
+    )
     (min-pairs _ _ _ _)
 
 option-terms : (b : List ℕ) → leastOf termRule (optionOf b) ≡ min (leastOf tagIn (insides type.Tag b)) (leastOf callIn (insides type.UserFnCall b))
@@ -105,7 +114,7 @@ module _ (parents : List ℕ) (i : ℕ) (b : List ℕ) where
     unfolding itemRule
     argument-item e h = rw e h
 
-    pub call-item : {a x : ℕ} → k ≡ sort.Call → a ≡ broken 12 (badCall (callOf b)) → x ≡ swept sort.Argument → r ≡ min a x → r ≡ itemRule parents i k b
+    pub call-item : {a x : ℕ} → k ≡ sort.Call → a ≡ argumentsRule (callOf b) → x ≡ swept sort.Argument → r ≡ min a x → r ≡ itemRule parents i k b
     unfolding itemRule typeOf callRule callOf
     call-item e f g h = rw (e, h, f, g, least-map argumentRule argumentOf (insides type.UserFnArg b))
 
@@ -113,8 +122,8 @@ module _ (parents : List ℕ) (i : ℕ) (b : List ℕ) where
     unfolding itemRule
     tag-item e f h = rw (e, h, f)
 
-    pub option-item : {a t c x : ℕ} → k ≡ sort.ConstraintOption → a ≡ broken 10 (not (eqb (length (optionOf b)) 1)) → t ≡ swept sort.Tag → c ≡ swept sort.Call → x ≡ min t c → r ≡ min a x
-        → r ≡ itemRule parents i k b
+    pub option-item : {a t c x : ℕ} → k ≡ sort.ConstraintOption → a ≡ termsRule (optionOf b) → t ≡ swept sort.Tag → c ≡ swept sort.Call
+        → x ≡ min t c → r ≡ min a x → r ≡ itemRule parents i k b
     unfolding itemRule typeOf optionRule tagIn callIn
     option-item e f g h p q = rw (e, q, p, f, g, h, option-terms b)
 
@@ -126,8 +135,8 @@ module _ (parents : List ℕ) (i : ℕ) (b : List ℕ) where
     unfolding itemRule valueEdgeRule valueEdgeOf
     value-edge-item e f h = rw (e, h, f)
 
-    pub pattern-edge-item : {t d a c x y : ℕ} → k ≡ sort.PatternEdge → t ≡ theInteger type.Tag b → a ≡ tagRule t → d ≡ theInteger type.NodeId b → c ≡ destinationRule parents i d
-        → x ≡ swept sort.Constraint → y ≡ min c x → r ≡ min a y → r ≡ itemRule parents i k b
+    pub pattern-edge-item : {t d a c x y : ℕ} → k ≡ sort.PatternEdge → t ≡ theInteger type.Tag b → a ≡ tagRule t → d ≡ theInteger type.NodeId b
+        → c ≡ destinationRule parents i d → x ≡ swept sort.Constraint → y ≡ min c x → r ≡ min a y → r ≡ itemRule parents i k b
     unfolding itemRule typeOf patternEdgeRule patternEdgeOf
     pattern-edge-item e ft fa fd fc fx fy h = rw (e, h, fa, ft, fy, fc, fd, fx, least-map constraintRule constraintOf (insides type.Constraint b))
 
@@ -139,8 +148,19 @@ module _ (parents : List ℕ) (i : ℕ) (b : List ℕ) where
     unfolding itemRule symbolRule symbolOf
     symbol-item e f h = rw (e, h, f)
 
-  pub node-item : {d id v p s x y r : ℕ} → d ≡ theInteger type.NodeId b → id ≡ broken 6 (not (eqb d i)) → v ≡ swept sort.ValueEdge → p ≡ swept sort.PatternEdge → s ≡ swept sort.Signer
-      → x ≡ min p s → y ≡ min v x → r ≡ min id y → r ≡ nodeRule parents i (nodeOf b)
+  pub node-item : {own v p s x y r : ℕ} → own ≡ ownRule i (nodeOf b) → v ≡ swept sort.ValueEdge → p ≡ swept sort.PatternEdge → s ≡ swept sort.Signer
+      → x ≡ min p s → y ≡ min v x → r ≡ min own y → r ≡ nodeRule parents i (nodeOf b)
   unfolding itemRule typeOf nodeRule nodeOf integers
-  node-item fd fid fv fp fs fx fy h =
-      rw (h, fid, fd, fy, fv, fx, fp, fs, least-map (valueEdgeRule parents i) valueEdgeOf (insides type.ValueEdge b), least-map (patternEdgeRule parents i) patternEdgeOf (insides type.PatternEdge b), least-map (signerRule parents) numberOf (insides type.SignConstraint b))
+  node-item fo fv fp fs fx fy h =
+      rw (
+        h,
+        fo,
+        fy,
+        fv,
+        fx,
+        fp,
+        fs,
+        least-map (valueEdgeRule parents i) valueEdgeOf (insides type.ValueEdge b),
+        least-map (patternEdgeRule parents i) patternEdgeOf (insides type.PatternEdge b),
+        least-map (signerRule parents) numberOf (insides type.SignConstraint b),
+      )

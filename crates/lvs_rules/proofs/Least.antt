@@ -1,12 +1,12 @@
 -- Laws of `min`, `broken` and `leastOf`. Assumes nothing.
 use mathlib.Core.Path.{_≡_, refl, sym, ap, _∙_}
-use mathlib.Core.Bool.{Bool, true, false, cond, _||_, not}
+use mathlib.Core.Bool.{not}
 use mathlib.Core.List.{List, [], _∷_, _++_, map}
 use Prim.Native.Nat.{ℕ, _+_, _≤_, _<_, min}
 use native.Mathlib.Nat.{le-antisymm, le-trans, le-refl, le-min, min-comm, min-le-left, min-le-right, min-eq-left, min-eq-right}
 use borrow.Author.Tests.{eq-eqb, ne-eqb, le-leb, lt-leb, lt-ltb, le-ltb}
 use lib.Dec.{leb, eqb}
-use Rattle.tlv.specs.Lists.{any, each}
+use Rattle.tlv.specs.Lists.{each}
 use Rattle.lvs_spec.specs.Limits.{maxTag}
 use Rattle.lvs_spec.specs.Verdict.{badTag}
 use Rattle.lvs_rules.specs.Lowest.{noRule, broken, leastOf, tagRule}
@@ -24,18 +24,6 @@ min-swap a b c = sym (min-assoc a b c) ∙ ap (λ (x : ℕ). min x c) (min-comm 
 
 pub min-pairs : (a b c d : ℕ) → min (min a b) (min c d) ≡ min (min a c) (min b d)
 min-pairs a b c d = simp (min-assoc, min-swap)
-
--- ---- bounds
-
-pub broken-most : (r : ℕ) (t : Bool) → r ≤ noRule → broken r t ≤ noRule
-unfolding broken
-broken-most r true h = h
-broken-most r false h = le-refl _
-
-pub broken-least : (r : ℕ) (t : Bool) → r ≤ noRule → r ≤ broken r t
-unfolding broken
-broken-least r true h = le-refl r
-broken-least r false h = h
 
 -- ---- a rule by its test
 
@@ -91,17 +79,6 @@ module _ {A : Type 0} where
   unfolding leastOf
   least-both f g [] = sym (min-eq-left (le-refl _))
   least-both f g (x ∷ xs) = rw (least-both f g xs) (min-pairs _ _ _ _)
-
-  -- a rule that some element breaks
-  pub least-any : (r : ℕ) → r ≤ noRule → (t : A → Bool) (xs : List A) → leastOf (λ x. broken r (t x)) xs ≡ broken r (any t xs)
-  unfolding leastOf broken
-  least-any r h t [] = refl
-  least-any r h t (x ∷ xs) = rw (least-any r h t xs) (go (t x) (any t xs))
-    where
-      go : (a b : Bool) → min (cond a r noRule) (cond b r noRule) ≡ cond (a || b) r noRule
-      go true true = min-eq-left (le-refl _)
-      go true false = min-eq-left h
-      go false b = min-eq-right (broken-most r b h)
 
 module _ {A B : Type 0} where
   pub least-map : (f : B → ℕ) (g : A → B) (xs : List A) → leastOf f (map g xs) ≡ leastOf (λ x. f (g x)) xs

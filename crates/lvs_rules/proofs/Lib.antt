@@ -1,7 +1,8 @@
 pub mod Least
 pub mod ParentWords
+pub mod Rows
+pub mod Pass
 pub mod Nodes
-pub mod Scan
 pub mod Verdict
 pub mod Loops
 pub mod Items

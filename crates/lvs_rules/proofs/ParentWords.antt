@@ -3,7 +3,7 @@ use mathlib.Core.Path.{_≡_, refl, sym, _∙_}
 use mathlib.Core.Bool.{Bool, true, false, cond, not}
 use mathlib.Core.List.{List, [], _∷_, map}
 use mathlib.Core.Option.{Option, none, some}
-use Prim.Native.Nat.{ℕ, zero, suc, _≤_, _<_, min}
+use Prim.Native.Nat.{ℕ, zero, suc, _≤_, _<_}
 use native.Mathlib.Nat.{not-suc-le-zero}
 use native.Mathlib.Omega.{arith}
 use borrow.Author.Tests.{eq-eqb, ne-eqb, le-leb, lt-leb, ltb-false, leb-false}
@@ -33,17 +33,12 @@ module _ {i : ℕ} (small : i < maxNodes) where
   parent-at (n ∷ ns) zero h = same-parent (n .parent)
   parent-at (n ∷ ns) (suc d) h = parent-at ns d (omega arith)
 
-eight : (t : Bool) → min (broken 8 true) (broken 11 t) ≡ 8
-unfolding broken
-eight true = refl
-eight false = refl
-
 -- ---- what the code finds at a destination
 
 module _ (parents : List ℕ) (i d : ℕ) where
   pub names-none : length parents ≤ d → 8 ≡ destinationRule parents i d
   unfolding destinationRule unnamed
-  names-none h = sym (rw (le-leb _ _ h) (eight (not (eqb i (getD parents d 0)))))
+  names-none h = rw (le-leb _ _ h)
 
   pub other-parent : d < length parents → (getD parents d 0 ≡ i → ⊥) → 11 ≡ destinationRule parents i d
   unfolding destinationRule unnamed broken
@@ -60,10 +55,11 @@ unfolding unnamed namesNone
 none-named m d = rw (length-map (m .nodes) parentIndex)
 
 pub destination-is : (m : Model) {i : ℕ} → i < maxNodes → (d : ℕ)
-    → destinationRule (map parentIndex (m .nodes)) i d ≡ min (broken 8 (namesNone m d)) (broken 11 (notParent m i d))
+    → destinationRule (map parentIndex (m .nodes)) i d ≡ cond (namesNone m d) 8 (broken 11 (notParent m i d))
 unfolding destinationRule namesNone notParent
 destination-is m {i} small d = rw (none-named m d) (go (leb (length (m .nodes)) d) refl)
   where
-    go : (t : Bool) → leb (length (m .nodes)) d ≡ t → min (broken 8 t) (broken 11 (not (eqb i (getD (map parentIndex (m .nodes)) d 0)))) ≡ min (broken 8 t) (broken 11 (notParent m i d))
-    go true q = eight (not (eqb i (getD (map parentIndex (m .nodes)) d 0))) ∙ sym (eight (notParent m i d))
+    go : (t : Bool) → leb (length (m .nodes)) d ≡ t
+        → cond t 8 (broken 11 (not (eqb i (getD (map parentIndex (m .nodes)) d 0)))) ≡ cond t 8 (broken 11 (notParent m i d))
+    go true q = refl
     go false q = rw (parent-at small (m .nodes) d (leb-false _ _ q))

@@ -1,23 +1,27 @@
 -- The verdict on the bytes of a model, from what the code finds in them. Assumes nothing.
-use mathlib.Core.Path.{_≡_, sym, _∙_}
-use mathlib.Core.List.{List, map, map-map}
-use Prim.Native.Nat.{ℕ, _≤_, _<_, min}
+use mathlib.Core.Path.{_≡_, refl, sym, _∙_}
+use mathlib.Core.List.{List, [], _∷_, map, map-map}
+use Prim.Native.Nat.{ℕ, suc, _≤_, _<_, min}
 use native.Mathlib.Omega.{arith}
-use lib.Dec.{leb}
 use lib.ListN.{length, take, length-map}
 use Rattle.lvs_spec.specs.Limits.{maxNodes}
 use Rattle.lvs_spec.specs.Types as type
 use Rattle.tlv.specs.Fields.{insides, theInteger}
 use Rattle.lvs_spec.specs.Model.{nodeOf, symbolOf, modelOf}
-use Rattle.lvs_spec.specs.Verdict.{Verdict, refused, judge, namesNone}
-use Rattle.lvs_rules.specs.Lowest.{broken, leastOf, nodeRule, parentIndex, symbolRule}
+use Rattle.lvs_spec.specs.Verdict.{Verdict, refused, judge}
+use Rattle.lvs_rules.specs.Lowest.{leastOf, startRule, nodeRule, parentIndex, symbolRule}
 use Rattle.lvs_rules.specs.Sorts.{typeOf, itemRule}
-use Rattle.lvs_rules.specs.Faults.{lowest, verdictOf}
+use Rattle.lvs_rules.specs.Faults.{lowestFrom, noFault, lowest, verdictOf}
 use Rattle.lvs_rules.specs.declared.Fault.{Fault}
 use Rattle.lvs_rules.specs.declared.Sort.the-variants as sort
 use Rattle.lvs_rules.proofs.Least.{least-map}
-use Rattle.lvs_rules.proofs.Scan.{lowest-map}
 use Rattle.lvs_rules.proofs.Verdict.{judge-few, judge-many}
+
+lowest-map : {A B : Type 0} (f : ℕ → B → ℕ) (h : A → B) (a : Fault) (i : ℕ) (xs : List A)
+    → lowestFrom f a i (map h xs) ≡ lowestFrom (λ i x. f i (h x)) a i xs
+unfolding lowestFrom
+lowest-map f h a i [] = refl
+lowest-map f h a i (x ∷ xs) = lowest-map f h _ (suc i) xs
 
 module _ (s : List ℕ) {n : ℕ} (count : n ≡ length (insides type.Node s)) where
   node-count : length (modelOf s .nodes) ≡ n
@@ -37,21 +41,21 @@ module _ (s : List ℕ) {n : ℕ} (count : n ≡ length (insides type.Node s)) w
 
     nodes-fault : lowest (nodeRule (take n all)) (modelOf s .nodes) ≡ lowest (λ i b. nodeRule (take n all) i (nodeOf b)) (insides type.Node s)
     unfolding modelOf lowest
-    nodes-fault = rw (lowest-map (nodeRule (take n all)) nodeOf 0 (insides type.Node s))
+    nodes-fault = lowest-map (nodeRule (take n all)) nodeOf noFault 0 (insides type.Node s)
 
     symbols-rule : leastOf symbolRule (modelOf s .symbols) ≡ leastOf (itemRule (take n all) 0 sort.Symbol) (insides (typeOf sort.Symbol) s)
     unfolding modelOf itemRule typeOf
     symbols-rule = least-map symbolRule symbolOf (insides type.TagSymbol s)
 
-    start-none : namesNone (modelOf s) (modelOf s .start) ≡ leb n (theInteger type.NodeId s)
-    unfolding modelOf namesNone
-    start-none = rw node-count
+    start-is : modelOf s .start ≡ theInteger type.NodeId s
+    unfolding modelOf
+    start-is = refl
 
     pub found : {fault : Fault} {symbols start whole : ℕ} {v : Verdict} → n ≤ maxNodes
         → fault ≡ lowest (λ i b. nodeRule (take n all) i (nodeOf b)) (insides type.Node s)
         → symbols ≡ leastOf (itemRule (take n all) 0 sort.Symbol) (insides (typeOf sort.Symbol) s)
-        → start ≡ broken 7 (leb n (theInteger type.NodeId s)) → whole ≡ min symbols start → v ≡ verdictOf fault whole n
+        → start ≡ startRule n (theInteger type.NodeId s) → whole ≡ min symbols start → v ≡ verdictOf fault whole n
         → v ≡ judge (modelOf s)
     found few f g h w e =
         let l = node-count in
-        rw (judge-few (modelOf s) (omega arith), all-parents, nodes-fault, symbols-rule, start-none, node-count, ← f, ← g, ← h, ← w) e
+        rw (judge-few (modelOf s) (omega arith), all-parents, nodes-fault, symbols-rule, node-count, start-is, ← f, ← g, ← h, ← w) e

@@ -17,17 +17,22 @@ judgedOf (Refused r i) = refused r i
 unfoldable pub earlier : Fault → Fault → Fault
 earlier a b = cond (ltb (b .rule) (a .rule)) b a
 
--- f i x is the lowest rule that x breaks at position i
-unfoldable pub lowestFrom : {A : Type 0} → (ℕ → A → ℕ) → ℕ → List A → Fault
-lowestFrom f i [] = record { rule = noRule; node = i }
-lowestFrom f i (x ∷ xs) = earlier (record { rule = f i x; node = i }) (lowestFrom f (suc i) xs)
+-- f i x is the lowest rule that x breaks at position i; `fault` is the lowest before it
+unfoldable pub lowestFrom : {A : Type 0} → (ℕ → A → ℕ) → Fault → ℕ → List A → Fault
+lowestFrom f fault i [] = fault
+lowestFrom f fault i (x ∷ xs) = lowestFrom f (earlier fault (record { rule = f i x; node = i })) (suc i) xs
+
+abbrev pub noFault : Fault
+noFault = record { rule = noRule; node = 0 }
 
 unfoldable pub lowest : {A : Type 0} → (ℕ → A → ℕ) → List A → Fault
-lowest f xs = earlier (record { rule = noRule; node = 0 }) (lowestFrom f 0 xs)
+lowest f xs = lowestFrom f noFault 0 xs
 
--- the verdict, where `fault` is that of the Nodes and `whole` the lowest of rule 5 in TagSymbols and of rule 7, which name no Node
+-- a fault in a Node names it, unless it is a Tag's
+unfoldable pub named : Fault → ℕ
+named fault = cond (eqb (fault .rule) 5) 0 (fault .node)
+
+-- the verdict, where `fault` is that of the Nodes and `whole` the lowest of the rules that TagSymbols and StartId break
 unfoldable pub verdictOf : Fault → ℕ → ℕ → Verdict
 verdictOf fault whole count =
-    cond (ltb whole (fault .rule)) (refused whole 0)
-    (cond (eqb (fault .rule) noRule) (accepted count)
-    (cond (eqb (fault .rule) 5) (refused 5 0) (refused (fault .rule) (fault .node))))
+    cond (ltb whole (fault .rule)) (refused whole 0) (cond (eqb (fault .rule) noRule) (accepted count) (refused (fault .rule) (named fault)))

@@ -1,4 +1,5 @@
-// Rules 4 to 12 of the verdict, in one pass over the Nodes that keeps the lowest rule broken and the first Node that breaks it.
+// Rules 4 to 12 of the verdict: the table `rules` of lvs_spec. The top level is read four times: the Nodes are counted, their Parents read into
+// an array, each Node and all that it holds is tested, keeping the lowest rule broken and the first Node that breaks it, and the TagSymbols.
 // Any bytes have an answer: the definitions are total.
 mod numbers;
 mod options;
@@ -17,7 +18,7 @@ use lvs_spec::types::USER_FN_CALL;
 use lvs_spec::types::VALUE_EDGE;
 use numbers::NO_RULE;
 use numbers::destination_rule;
-use numbers::id_rule;
+use numbers::own_rule;
 use numbers::signer_rule;
 use numbers::start_rule;
 use numbers::tag_rule;
@@ -64,8 +65,8 @@ enum Sort {
     Symbol,
 }
 
-// The verdict on a model by rules 4 to 12.
-pub fn judge(model: &[u8]) -> Judged
+// The verdict on a model by these rules.
+pub fn check_rules(model: &[u8]) -> Judged
     ensures { λ r. ⌜ judgedOf r ≡ judge (modelOf (now (model .entry))) ⌝ }
 {
     let n = count_of(model, NODE);
@@ -80,7 +81,7 @@ pub fn judge(model: &[u8]) -> Judged
     conclude(fault, lower(symbols, start), n as u32)
 }
 
-// Of `fault` and `whole` the lower rule decides; rules 5 and 7 name no Node.
+// Of `fault`, in the Nodes, and `whole`, outside of them, the lower rule decides. A Tag's fault, and any outside of the Nodes, names no Node.
 fn conclude(fault: Fault, whole: u32, nodes: u32) -> Judged
     ensures { λ r. ⌜ judgedOf r ≡ verdictOf fault whole nodes ⌝ }
 {
@@ -95,7 +96,7 @@ fn conclude(fault: Fault, whole: u32, nodes: u32) -> Judged
         return Judged::Accepted { nodes };
     }
     if rule == 5 {
-        return Judged::Refused { rule: 5, node: 0 };
+        return Judged::Refused { rule, node: 0 };
     }
     Judged::Refused {
         rule,
@@ -153,11 +154,11 @@ fn earlier(a: Fault, b: Fault) -> Fault
 fn node_rule(node: &[u8], i: u32, parents: &[u32]) -> u32
     ensures { λ r. ⌜ r ≡ nodeRule (now (parents .entry)) i (nodeOf (now (node .entry))) ⌝ }
 {
-    let id = id_rule(tlv::number_in(node, NODE_ID), i);
+    let own = own_rule(node, i);
     let values = sweep(node, Sort::ValueEdge, i, parents);
     let patterns = sweep(node, Sort::PatternEdge, i, parents);
     let signers = sweep(node, Sort::Signer, i, parents);
-    lower(id, lower(values, lower(patterns, signers)))
+    lower(own, lower(values, lower(patterns, signers)))
 }
 
 // The lowest rule that the elements of one sort in `s` break.

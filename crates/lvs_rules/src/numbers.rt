@@ -1,17 +1,16 @@
 // The rules that ask something of one number: 5 to 9 and 11.
 ghost use mathlib.Core.Path.{_≡_};
-ghost use mathlib.Core.Bool.{not};
 ghost use Prim.Native.Nat.{_<_};
-ghost use lib.Dec.{leb, eqb};
 ghost use Rattle.tlv.specs.Fields.{theInteger};
+ghost use Rattle.lvs_spec.specs.Model.{nodeOf};
 ghost use Rattle.lvs_spec.specs.Types as type;
-ghost use Rattle.lvs_rules.specs.Lowest.{broken, tagRule, destinationRule, signerRule};
+ghost use Rattle.lvs_rules.specs.Lowest.{tagRule, startRule, ownRule, destinationRule, signerRule};
 use lvs_spec::types::NODE_ID;
 
-// Above every rule: none is broken.
-pub(crate) const NO_RULE: u32 = 13;
+// Above every rule's number: none is broken.
+pub(crate) const NO_RULE: u32 = u32::MAX;
 
-// Rule 5: a Tag is 1 to 128.
+// Rule 5: a Tag is 1 to MAX_TAG.
 pub(crate) fn tag_rule(tag: u64) -> u32
     ensures { λ r. ⌜ r ≡ tagRule tag ⌝ }
 {
@@ -24,16 +23,17 @@ pub(crate) fn tag_rule(tag: u64) -> u32
     NO_RULE
 }
 
-// Rule 6: a NodeId is its Node's index.
-pub(crate) fn id_rule(id: u64, i: u32) -> u32
-    ensures { λ r. ⌜ r ≡ broken 6 (not (eqb id i)) ⌝ }
+// Rule 6: a Node's NodeId is its index.
+pub(crate) fn own_rule(node: &[u8], i: u32) -> u32
+    ensures { λ r. ⌜ r ≡ ownRule i (nodeOf (now (node .entry))) ⌝ }
 {
+    let id = tlv::number_in(node, NODE_ID);
     if id == i as u64 { NO_RULE } else { 6 }
 }
 
 // Rule 7: StartId names a Node; there are `n`.
 pub(crate) fn start_rule(model: &[u8], n: usize) -> u32
-    ensures { λ r. ⌜ r ≡ broken 7 (leb n (theInteger type.NodeId (now (model .entry)))) ⌝ }
+    ensures { λ r. ⌜ r ≡ startRule n (theInteger type.NodeId (now (model .entry))) ⌝ }
 {
     let start = tlv::number_in(model, NODE_ID);
     if n as u64 <= start { 7 } else { NO_RULE }

@@ -5,8 +5,7 @@ ghost use lib.Dec.{eqb};
 ghost use lib.ListN.{length};
 ghost use Rattle.lvs_spec.specs.Model.{callOf, optionOf, argumentOf};
 ghost use Rattle.tlv.specs.Fields.{insides};
-ghost use Rattle.lvs_spec.specs.Verdict.{badCall};
-ghost use Rattle.lvs_rules.specs.Lowest.{broken, argumentRule};
+ghost use Rattle.lvs_rules.specs.Lowest.{broken, argumentRule, argumentsRule, termsRule};
 use crate::numbers::NO_RULE;
 use crate::numbers::tag_rule;
 use lvs_functions::Function;
@@ -51,7 +50,7 @@ pub(crate) fn argument_rule(b: &[u8]) -> u32
 
 // Rule 12 of a call.
 pub(crate) fn arguments_rule(call: &[u8]) -> u32
-    ensures { λ r. ⌜ r ≡ broken 12 (badCall (callOf (now (call .entry)))) ⌝ }
+    ensures { λ r. ⌜ r ≡ argumentsRule (callOf (now (call .entry))) ⌝ }
 {
     let part = tlv::inside_of(call, FN_ID);
     let start = part.start;
@@ -74,7 +73,7 @@ fn number_rule(n: usize, arity: usize) -> u32
 
 // Rule 10 of a ConstraintOption.
 pub(crate) fn terms_rule(b: &[u8]) -> u32
-    ensures { λ r. ⌜ r ≡ broken 10 (not (eqb (length (optionOf (now (b .entry)))) 1)) ⌝ }
+    ensures { λ r. ⌜ r ≡ termsRule (optionOf (now (b .entry))) ⌝ }
 {
     let n = term_count(b);
     if n == 1 { NO_RULE } else { 10 }

@@ -71,9 +71,9 @@ module _ (packet key : List ℕ) (goal : Goal) where
       go (Packet s k) f = rw (f .is)
       go (Key p) f = rw (f .is)
 
-  row-ended : {at : ℕ} → rowFrom (nameFor packet key goal) at ≡ [] → rowFor packet key goal at ≡ []
+  row-ended : (at : ℕ) → rowFrom (nameFor packet key goal) at ≡ [] → rowFor packet key goal at ≡ []
   unfolding rowFor nameFor packetRow keyRow
-  row-ended {at} e = go goal e
+  row-ended at e = go goal e
     where
       go : (g : Goal) → rowFrom (nameFor packet key g) at ≡ [] → rowFor packet key g at ≡ []
       go AnyMatch e = rw e
@@ -89,14 +89,14 @@ pub record Component (packet key : List ℕ) (goal : Goal) (at stop text : ℕ) 
   pub stands : Stands packet key text c
   pub row-is : rowFor packet key goal at ≡ bindingAt packet key text (length c) ∷ rowFor packet key goal stop
 
-module _ {packet key : List ℕ} {goal : Goal} {at : ℕ} {name : List ℕ} (name-is : name ≡ nameFor packet key goal) {r : ComponentRead} (read : ComponentAt name at r) where
+module _ (packet key : List ℕ) (goal : Goal) (at : ℕ) {name : List ℕ} (name-is : name ≡ nameFor packet key goal) {r : ComponentRead} (read : ComponentAt name at r) where
   pub has-component : {stop : ℕ} → r ≡ AComponent stop → RowStep (nameFor packet key goal) at stop
   has-component {stop} e = rw name-is at (subst (ComponentAt name at) e read)
 
   pub no-component : r ≡ Ended → rowFor packet key goal at ≡ []
-  no-component e = row-ended packet key goal (rw name-is at (subst (ComponentAt name at) e read))
+  no-component e = row-ended packet key goal at (rw name-is at (subst (ComponentAt name at) e read))
 
-module _ {packet key : List ℕ} {goal : Goal} {name c : List ℕ} {at stop text : ℕ} (packet-short : length packet ≤ maxNameBytes)
+module _ (packet key : List ℕ) (goal : Goal) (at : ℕ) {name c : List ℕ} {stop text : ℕ} (packet-short : length packet ≤ maxNameBytes)
     (key-short : length key ≤ maxNameBytes) (name-is : name ≡ nameFor packet key goal) (c-is : c ≡ take (stop - at) (drop at name))
     (text-at : text ≡ textPlace packet goal at) (f : RowStep (nameFor packet key goal) at stop) where
   c-there : c ≡ take (stop - at) (drop at (nameFor packet key goal))

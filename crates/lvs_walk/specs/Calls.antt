@@ -34,5 +34,5 @@ signFound Nothing = SignAnswer.notAllowed
 signFound (At p k) = SignAnswer.allowed p k
 
 -- the nodes of the first pair
-abbrev pub FirstPair : Model → List Component → List Component → Found → Type 0
-FirstPair m ps ks r = signFound r ≡ pairFound (first (pairs m ps ks))
+pub record FirstPair (m : Model) (ps ks : List Component) (r : Found) : Type 0 where
+  pub answer : signFound r ≡ pairFound (first (pairs m ps ks))

@@ -2,6 +2,9 @@
 //
 // Standard input is the model. A line is `node` and a Node's numbers of ValueEdges, PatternEdges and SignConstraints. The last
 // line is `nodes` and their number. `malformed` stands for a number where the bytes are not elements and nothing else.
+ghost use mathlib.Core.Path.{_≡_};
+ghost use Rattle.lvs_spec.specs.Types.{Node};
+ghost use Rattle.tlv_reader.specs.Count.{countOf};
 use libc::STDIN_FILENO;
 use libc::STDOUT_FILENO;
 use lvs_spec::types;
@@ -15,8 +18,15 @@ fn main() {
     let model = &input[..n];
     print_nodes(model);
     io::write_all(STDOUT_FILENO, b"nodes");
-    print_count(lvs_count::count_nodes(model));
+    print_count(count_nodes(model));
     io::write_all(STDOUT_FILENO, b"\n");
+}
+
+// Of an accepted model, the number that the verdict gives (proofs/Accepted.antt).
+fn count_nodes(model: &[u8]) -> Count
+    ensures { λ r. ⌜ r ≡ countOf Node (now (model .entry)) ⌝ }
+{
+    tlv_reader::count_of_type(model, types::NODE)
 }
 
 fn print_nodes(model: &[u8]) {

@@ -72,21 +72,23 @@ spelled-big (x ∷ s) h =
     let lt = big-lt s (λ i. h (suc i)) in
     rw (digits-div x lt, digits-mod x lt, spelled-big s (λ i. h (suc i)))
 
--- ---- w + v bytes are the w bytes in front and the v behind them
+-- ---- w + v bytes are the first w bytes and the v after them
 
 big-append : (s t : List ℕ) → bigEndian (s ++ t) ≡ bigEndian s * 256 ^ length t + bigEndian t
 unfolding bigEndian
 big-append [] t = omega arith
 big-append (x ∷ s) t =
     let p : x * 256 ^ length (s ++ t) ≡ x * 256 ^ length s * 256 ^ length t =
-    ap (λ (k : ℕ). x * 256 ^ k) (length-append s t) ∙ ap (λ (k : ℕ). x * k) (pow-add 256 (length s) (length t)) ∙ sym (mul-assoc x (256 ^ length s) (256 ^ length t)) in
+    ap (λ (k : ℕ). x * 256 ^ k) (length-append s t) ∙ ap (λ (k : ℕ). x * k) (pow-add 256 (length s) (length t)) ∙
+    sym (mul-assoc x (256 ^ length s) (256 ^ length t)) in
     omega (arith, big-append s t, add-mul (x * 256 ^ length s) (bigEndian s) (256 ^ length t))
 
 pub one-byte : (s : List ℕ) (at : ℕ) → Bytes s → at < length s → Spelled s at 1 (getD s at 0)
 unfolding bigEndian
 one-byte s at h lt = record { is = rw (drop-cons s at 0) (omega arith); below = h at }
 
-pub joined : (s : List ℕ) (at w v : ℕ) {x y : ℕ} → Spelled s at w x → Spelled s (at + w) v y → at + (w + v) ≤ length s → Spelled s at (w + v) (x * 256 ^ v + y)
+pub joined : (s : List ℕ) (at w v : ℕ) {x y : ℕ} → Spelled s at w x → Spelled s (at + w) v y → at + (w + v) ≤ length s
+    → Spelled s at (w + v) (x * 256 ^ v + y)
 joined s at w v X Y fits =
     let back : List ℕ = take v (drop (at + w) s) in
     let long : length back ≡ v = length-take-le v (drop (at + w) s) (simp length-drop (omega arith)) in
@@ -124,19 +126,23 @@ same-false s t n = go (sameBytes s t) refl
 pub same-length : (s t : List ℕ) → (length t ≡ length s → ⊥) → sameBytes s t ≡ false
 same-length s t n = same-false s t (λ e. n (ap length (sym e)))
 
--- a loop that compares from the front, at byte i
-module _ (s t : List ℕ) (i : ℕ) where
-  pub same-ends : length s ≤ i → length t ≤ i → sameBytes (drop i s) (drop i t) ≡ true
+-- a loop that compares from the front has found no difference before byte i
+pub record Compared (s t : List ℕ) (i : ℕ) : Type 0 where
+  pub within : i ≤ length s
+  pub rest : sameBytes (drop i s) (drop i t) ≡ sameBytes s t
+
+module _ {s t : List ℕ} {i : ℕ} (inv : Compared s t i) where
+  pub none-differs : length s ≤ i → length t ≤ i → true ≡ sameBytes s t
   unfolding sameBytes
-  same-ends h g = rw (drop-of-length-le s h, drop-of-length-le t g)
+  none-differs h g = sym (rw (drop-of-length-le s h, drop-of-length-le t g)) ∙ inv .rest
 
   module _ (h : i < length s) (g : i < length t) where
     turn : sameBytes (drop i s) (drop i t) ≡ (eqb (getD s i 0) (getD t i 0) && sameBytes (drop (i + 1) s) (drop (i + 1) t))
     unfolding sameBytes
     turn = rw (drop-cons s i 0, drop-cons t i 0, add-one i)
 
-    pub same-stops : (getD s i 0 ≡ getD t i 0 → ⊥) → sameBytes (drop i s) (drop i t) ≡ false
-    same-stops n = rw (turn, ne-eqb _ _ n)
+    pub one-differs : (getD s i 0 ≡ getD t i 0 → ⊥) → false ≡ sameBytes s t
+    one-differs n = sym (rw (turn, ne-eqb _ _ n)) ∙ inv .rest
 
-    pub same-goes-on : getD s i 0 ≡ getD t i 0 → sameBytes (drop i s) (drop i t) ≡ sameBytes (drop (i + 1) s) (drop (i + 1) t)
-    same-goes-on e = rw (turn, eq-eqb _ _ e)
+    pub one-agrees : getD s i 0 ≡ getD t i 0 → Compared s t (i + 1)
+    one-agrees e = record { within = omega arith; rest = sym (rw (turn, eq-eqb _ _ e)) ∙ inv .rest }

@@ -12,7 +12,7 @@ use lib.ListN.{length, take, drop, getD, length-drop}
 use lib.Seq.{drop-drop, length-take-le}
 use Rattle.tlv.specs.Number.{Num, unreadable, num, number}
 use Rattle.tlv.specs.Element.{Element, First, first, end, malformed, element, typed, sized, typeInRange, Cuts, done, broken, next, after, cutsBy, cuts, also, split}
-use Rattle.tlv.specs.Reading.{readAt, readFrom}
+use Rattle.tlv.specs.Answers.{readAt, readFrom}
 use Rattle.tlv.specs.declared.Place.{Place}
 use Rattle.tlv.specs.declared.Read.{Read}
 use Rattle.tlv.specs.declared.Read.the-variants.{Found, End, Malformed}
@@ -40,12 +40,14 @@ malformed-first p = let z : _≡_ {A = ℕ} 0 1 = cc in omega arith
 end-first : {h : ℕ} {e : Element} {rest : List ℕ} → end ≡ first h e rest → ⊥
 end-first p = let z : _≡_ {A = ℕ} 0 1 = cc in omega arith
 
-cond-first : (t : Bool) (x : First) {h : ℕ} {e : Element} {rest : List ℕ} → cond t x malformed ≡ first h e rest → (t ≡ true) × (x ≡ first h e rest)
+cond-first : (t : Bool) (x : First) {h : ℕ} {e : Element} {rest : List ℕ} → cond t x malformed ≡ first h e rest
+    → (t ≡ true) × (x ≡ first h e rest)
 cond-first true x p = (refl, p)
 cond-first false x p = absurd (malformed-first p)
 
 module _ (b : List ℕ) {h : ℕ} {e : Element} {rest : List ℕ} where
-  sized-whole : (t k : ℕ) → number b ≡ num t k → typeInRange t ≡ true → (m : Num) → number (drop k b) ≡ m → sized b t k m ≡ first h e rest → Whole b h e rest
+  sized-whole : (t k : ℕ) → number b ≡ num t k → typeInRange t ≡ true → (m : Num) → number (drop k b) ≡ m
+      → sized b t k m ≡ first h e rest → Whole b h e rest
   unfolding sized
   sized-whole t k q r unreadable q′ p = absurd (malformed-first p)
   sized-whole t k q r (num n j) q′ p =
@@ -108,7 +110,8 @@ rest-shorter b h e rest p = let w = element-whole b h e rest p in rw (w .rest-is
 
 -- ---- enough is enough
 
-after-same : (b : List ℕ) (f g : List ℕ → Cuts) → ((r : List ℕ) → length r < length b → f r ≡ g r) → (m : First) → element b ≡ m → after m f ≡ after m g
+after-same : (b : List ℕ) (f g : List ℕ → Cuts) → ((r : List ℕ) → length r < length b → f r ≡ g r) → (m : First) → element b ≡ m
+    → after m f ≡ after m g
 after-same b f g same end p = refl
 after-same b f g same malformed p = refl
 after-same b f g same (first h e rest) p = ap (λ (c : Cuts). next e c) (same rest (rest-shorter b h e rest p))
@@ -265,6 +268,7 @@ split-next b r e p = rw p
 pub none-some : {es : List Element} → none ≡ some es → ⊥
 none-some p = let z : _≡_ {A = ℕ} 0 1 = cc in omega arith
 
-pub also-some : (e : Element) (o : Option (List Element)) (es : List Element) → also e o ≡ some es → (t : List Element) × (o ≡ some t) × (es ≡ e ∷ t)
+pub also-some : (e : Element) (o : Option (List Element)) (es : List Element) → also e o ≡ some es
+    → (t : List Element) × (o ≡ some t) × (es ≡ e ∷ t)
 also-some e none es p = absurd (none-some p)
 also-some e (some t) es p = (t, refl, cc)

@@ -9,7 +9,7 @@ use lib.ListN.{length, take, drop, length-drop, drop-of-length-le}
 use lib.Seq.{drop-drop, length-take-le}
 use Rattle.tlv.specs.Number.{unreadable, number}
 use Rattle.tlv.specs.Element.{element, typed, sized, typeInRange}
-use Rattle.tlv.specs.Reading.{readAt}
+use Rattle.tlv.specs.Answers.{readAt}
 use Rattle.tlv.specs.declared.Read.the-variants.{Found, End, Malformed}
 use Rattle.tlv.proofs.Numbers.{Numbered, drop-next}
 

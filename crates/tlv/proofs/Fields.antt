@@ -1,13 +1,13 @@
 -- What the readers of fields answer, one law for each return. Assumes nothing.
 use mathlib.Core.Path.{_≡_, refl, sym, ap, _∙_}
-use mathlib.Core.List.{List, [], _∷_}
+use mathlib.Core.List.{List, []}
 use mathlib.Core.Option.{Option, none, some}
 use Prim.Native.Nat.{ℕ, _-_}
 use native.Mathlib.Omega.{arith}
 use lib.ListN.{take, drop}
 use Rattle.tlv.specs.Number.{integer}
-use Rattle.tlv.specs.Reading.{integerOf, integerFrom}
-use Rattle.tlv.specs.Lists.{first, firstOr}
+use Rattle.tlv.specs.Answers.{integerOf, integerFrom}
+use Rattle.tlv.specs.Lists.{firstOr}
 use Rattle.tlv.specs.Fields.{InsideOf, insides, theInside, numberOf, theInteger}
 use Rattle.tlv.specs.declared.Place.{Place}
 use Rattle.tlv.specs.declared.Part.{Part}
@@ -17,14 +17,6 @@ use Rattle.tlv.proofs.Cuts.{Step}
 use Rattle.tlv.proofs.Gathered.{Stop, insides-found, insides-stop, Gathered, listed, rest-is}
 
 -- ---- the first inside
-
-pub first-or : {A : Type 0} (d : A) (xs : List A) {x : A} → first xs ≡ some x → firstOr d xs ≡ x
-first-or d [] e = let z : _≡_ {A = ℕ} 0 1 = cc in absurd (omega arith)
-first-or d (y ∷ ys) e = cc
-
-pub or-default : {A : Type 0} (d : A) (xs : List A) → first xs ≡ none → firstOr d xs ≡ d
-or-default d [] e = refl
-or-default d (y ∷ ys) e = let z : _≡_ {A = ℕ} 0 1 = cc in absurd (omega arith)
 
 module _ {k : ℕ} {s : List ℕ} {at : ℕ} (inv : Gathered listed (insides k) s at []) where
   pub inside-here : {t start stop : ℕ} {n : Place} → Step s at t start stop n → t ≡ k → InsideOf s k (record { start = start; end = stop })
@@ -52,7 +44,9 @@ module _ (b : List ℕ) {r : IntegerRead} (e : r ≡ integerOf b) where
     where
       go : (o : Option ℕ) → integer b ≡ o → 0 ≡ numberOf b
       go none q = rw (q, numberOf)
-      go (some m) q = let g : integerFrom (some m) ≡ OtherSize = rw (q, integerOf) at (sym e ∙ f) in let z : _≡_ {A = ℕ} 0 1 = cc in absurd (omega arith)
+      go (some m) q =
+          let g : integerFrom (some m) ≡ OtherSize = rw (q, integerOf) at (sym e ∙ f) in
+          let z : _≡_ {A = ℕ} 0 1 = cc in absurd (omega arith)
 
 pub number-inside : (k : ℕ) (s : List ℕ) (p : Part) {r : ℕ} → InsideOf s k p → r ≡ numberOf (take (p .end - p .start) (drop (p .start) s))
     → r ≡ theInteger k s

@@ -2,20 +2,19 @@
 use mathlib.Core.Path.{_≡_, refl, sym, ap, _∙_}
 use mathlib.Core.Logic.{_⊎_, inl, inr, ⊎-elim}
 use mathlib.Core.Bool.{Bool, true, false, _&&_, _||_, or-false, and-true}
-use mathlib.Core.List.{List, [], _∷_, _++_, map, append-assoc, append-nil}
-use mathlib.Core.Option.{none, some}
+use mathlib.Core.List.{List, [], _∷_, _++_, map, foldl, append-assoc, append-nil, foldl-append}
 use Prim.Native.Nat.{ℕ, _+_, _-_, _≤_, _<_}
 use native.Mathlib.Omega.{arith}
 use lib.Dec.{eqb}
 use borrow.Author.Tests.{eq-eqb, ne-eqb}
 use lib.ListN.{length, take, drop, length-append}
 use Rattle.tlv.specs.Element.{Element, done, broken, cuts}
-use Rattle.tlv.specs.Lists.{when, any, all, first}
+use Rattle.tlv.specs.Lists.{when, any, all}
 use Rattle.tlv.specs.Fields.{eachCut, insideOf, insides}
 use Rattle.tlv.specs.declared.Place.{Place}
 use Rattle.tlv.specs.declared.Read.{Read}
 use Rattle.tlv.specs.declared.Read.the-variants.{End, Malformed}
-use Rattle.tlv.specs.Reading.{readAt}
+use Rattle.tlv.specs.Answers.{readAt}
 use Rattle.tlv.proofs.Cuts.{Step, seen, by-elements, cuts-end, cuts-malformed, cuts-next, rest-shorter}
 
 -- ---- what is left at a place, by what the reader answered there
@@ -44,7 +43,8 @@ module _ {A : Type 0} (f : Element → List A) {s : List ℕ} {at : ℕ} where
         → eachCut f (cuts (drop at s)) ≡ x ∷ eachCut f (cuts (drop (n .at) s))
     each-one e = each-found ∙ rw e
 
-    pub each-none : f (record { type = t; inside = take (stop - start) (drop start s) }) ≡ [] → eachCut f (cuts (drop at s)) ≡ eachCut f (cuts (drop (n .at) s))
+    pub each-none : f (record { type = t; inside = take (stop - start) (drop start s) }) ≡ []
+        → eachCut f (cuts (drop at s)) ≡ eachCut f (cuts (drop (n .at) s))
     each-none e = each-found ∙ rw e
 
   pub each-stop : Stop s at → eachCut f (cuts (drop at s)) ≡ []
@@ -95,11 +95,16 @@ pub record Gathering (A B : Type 0) : Type 0 where
   pub add : B → A → B
   pub more : (xs : List A) (x : A) → of (xs ++ (x ∷ [])) ≡ add (of xs) x
 
--- `view` is the list that bytes are read as. A loop that stands at a place has gathered b: what the entries before it come to.
-pub record Gathered {A B : Type 0} (G : Gathering A B) (view : List ℕ → List A) (s : List ℕ) (at : ℕ) (b : B) : Type 0 where
+-- `view` is the list that bytes are read as. A loop that started at `from` and stands at a place has gathered b: what the entries before it
+-- come to.
+pub record GatheredFrom {A B : Type 0} (G : Gathering A B) (view : List ℕ → List A) (s : List ℕ) (from at : ℕ) (b : B) : Type 0 where
   pub taken : List A
-  pub whole : taken ++ view (drop at s) ≡ view s
+  pub whole : taken ++ view (drop at s) ≡ view (drop from s)
   pub is : b ≡ G .of taken
+
+-- most start at the front
+abbrev pub Gathered : {A B : Type 0} → Gathering A B → (List ℕ → List A) → List ℕ → ℕ → B → Type 0
+Gathered G view s at b = GatheredFrom G view s 0 at b
 
 -- a result that no entry changes
 kept : {A B : Type 0} (G : Gathering A B) {v : B} → ((y : A) → G .add v y ≡ v) → (xs ys : List A) → v ≡ G .of xs → v ≡ G .of (xs ++ ys)
@@ -109,52 +114,56 @@ kept {B} G {v} same xs (y ∷ ys) e =
     kept G same (xs ++ (y ∷ [])) ys m ∙ ap (G .of) (append-assoc xs (y ∷ []) ys)
 
 module _ {A B : Type 0} {G : Gathering A B} where
-  pub started : {view : List ℕ → List A} {s : List ℕ} → Gathered G view s 0 (G .of [])
+  pub started : {view : List ℕ → List A} {s : List ℕ} {from : ℕ} → GatheredFrom G view s from from (G .of [])
   started = record { taken = []; whole = refl; is = refl }
 
-  module _ {view : List ℕ → List A} {s : List ℕ} {at : ℕ} {b : B} (inv : Gathered G view s at b) where
+  module _ {view : List ℕ → List A} {s : List ℕ} {from at : ℕ} {b : B} (inv : GatheredFrom G view s from at b) where
     -- what is left, put in another way
-    left : {ys : List A} → view (drop at s) ≡ ys → inv .taken ++ ys ≡ view s
+    left : {ys : List A} → view (drop at s) ≡ ys → inv .taken ++ ys ≡ view (drop from s)
     left e = rw (← e) (inv .whole)
 
+    one-more : {x : A} {b′ : B} → b′ ≡ G .add b x → b′ ≡ G .of (inv .taken ++ (x ∷ []))
+    one-more {x} q = q ∙ ap (λ (c : B). G .add c x) (inv .is) ∙ sym (G .more (inv .taken) x)
+
     -- an element that adds nothing
-    pub passed : {n : ℕ} → view (drop at s) ≡ view (drop n s) → Gathered G view s n b
+    pub passed : {n : ℕ} → view (drop at s) ≡ view (drop n s) → GatheredFrom G view s from n b
     passed e = record { taken = inv .taken; whole = left e; is = inv .is }
 
     -- one that adds an entry
-    pub took : {x : A} {n : ℕ} {b′ : B} → view (drop at s) ≡ x ∷ view (drop n s) → b′ ≡ G .add b x → Gathered G view s n b′
-    took {x} e q =
-        record {
-          taken = inv .taken ++ (x ∷ []);
-          whole = append-assoc (inv .taken) _ _ ∙ left e;
-          is = q ∙ ap (λ (c : B). G .add c x) (inv .is) ∙ sym (G .more (inv .taken) x);
-        }
+    pub took : {x : A} {n : ℕ} {b′ : B} → view (drop at s) ≡ x ∷ view (drop n s) → b′ ≡ G .add b x → GatheredFrom G view s from n b′
+    took {x} e q = record { taken = inv .taken ++ (x ∷ []); whole = append-assoc (inv .taken) _ _ ∙ left e; is = one-more q }
 
     -- one after which the result is settled
-    pub settled : {x : A} {rest : List A} {v : B} → view (drop at s) ≡ x ∷ rest → v ≡ G .add b x → ((y : A) → G .add v y ≡ v) → v ≡ G .of (view s)
+    pub settled : {x : A} {rest : List A} {v : B} → view (drop at s) ≡ x ∷ rest → v ≡ G .add b x → ((y : A) → G .add v y ≡ v)
+        → v ≡ G .of (view (drop from s))
     settled {x} {rest} e q same =
-        kept G same (inv .taken ++ (x ∷ [])) rest (q ∙ ap (λ (c : B). G .add c x) (inv .is) ∙ sym (G .more (inv .taken) x)) ∙
-        ap (G .of) (append-assoc (inv .taken) _ _ ∙ left e)
+        kept G same (inv .taken ++ (x ∷ [])) rest (one-more q) ∙ ap (G .of) (append-assoc (inv .taken) _ _ ∙ left e)
 
     -- nothing is left
-    pub ended : view (drop at s) ≡ [] → b ≡ G .of (view s)
+    pub ended : view (drop at s) ≡ [] → b ≡ G .of (view (drop from s))
     ended e = inv .is ∙ ap (G .of) (sym (append-nil (inv .taken)) ∙ left e)
 
 -- ---- its instances
+
+-- what a step makes of an answer and an entry, from the front
+abbrev pub folded : {A B : Type 0} → (B → A → B) → B → Gathering A B
+folded f b = record { of = foldl f b; add = f; more = λ xs x. foldl-append f b xs (x ∷ []) }
 
 module _ {A : Type 0} where
   -- the list itself; a search goes on while it is empty
   abbrev pub listed : Gathering A (List A)
   listed = record { of = λ xs. xs; add = λ xs x. xs ++ (x ∷ []); more = λ xs x. refl }
 
-  pub rest-is : {view : List ℕ → List A} {s : List ℕ} {at : ℕ} {xs : List A} → Gathered listed view s at xs → view s ≡ xs ++ view (drop at s)
+  pub rest-is : {view : List ℕ → List A} {s : List ℕ} {from at : ℕ} {xs : List A} → GatheredFrom listed view s from at xs
+      → view (drop from s) ≡ xs ++ view (drop at s)
   rest-is inv = sym (inv .whole) ∙ rw (← (inv .is))
 
   -- how many
   abbrev pub counted : Gathering A ℕ
   counted = record { of = length; add = λ m x. m + 1; more = λ xs x. length-append xs (x ∷ []) }
 
-  pub one-left : {view : List ℕ → List A} {s : List ℕ} {at m : ℕ} {x : A} {rest : List A} → Gathered counted view s at m → view (drop at s) ≡ x ∷ rest → m < length (view s)
+  pub one-left : {view : List ℕ → List A} {s : List ℕ} {from at m : ℕ} {x : A} {rest : List A} → GatheredFrom counted view s from at m
+      → view (drop at s) ≡ x ∷ rest → m < length (view (drop from s))
   one-left inv e = omega (arith, inv .is, simp length-append at (ap length (left inv e)))
 
   -- a test passes on two lists where it passes on one of them
@@ -188,14 +197,16 @@ module _ {A : Type 0} where
       pub some-here : {x : A} {rest : List A} {r : Bool} → view (drop at s) ≡ x ∷ rest → r ≡ p x → r ≡ true → true ≡ any p (view s)
       some-here e read q = settled inv e (sym q ∙ read) (λ y. refl)
 
-      pub some-later : {x : A} {n : ℕ} {r : Bool} → view (drop at s) ≡ x ∷ view (drop n s) → r ≡ p x → r ≡ false → Gathered (some-of p) view s n false
+      pub some-later : {x : A} {n : ℕ} {r : Bool} → view (drop at s) ≡ x ∷ view (drop n s) → r ≡ p x → r ≡ false
+          → Gathered (some-of p) view s n false
       some-later e read q = took inv e (sym q ∙ read)
 
     module _ (inv : Gathered (all-of p) view s at true) where
       pub not-here : {x : A} {rest : List A} {r : Bool} → view (drop at s) ≡ x ∷ rest → r ≡ p x → r ≡ false → false ≡ all p (view s)
       not-here e read q = settled inv e (sym q ∙ read) (λ y. refl)
 
-      pub all-later : {x : A} {n : ℕ} {r : Bool} → view (drop at s) ≡ x ∷ view (drop n s) → r ≡ p x → r ≡ true → Gathered (all-of p) view s n true
+      pub all-later : {x : A} {n : ℕ} {r : Bool} → view (drop at s) ≡ x ∷ view (drop n s) → r ≡ p x → r ≡ true
+          → Gathered (all-of p) view s n true
       all-later e read q = took inv e (sym q ∙ read)
 
 -- elements that f gives any number of entries for; r is the test of those of the next one
@@ -237,20 +248,3 @@ insides-most k s = each-most (insideOf k) few s
         go : (b : Bool) → length (when b (e .inside)) ≤ 1
         go true = omega arith
         go false = omega arith
-
--- ---- the first that f gives (to be replaced by `listed`)
-
--- the invariant of a search: from this place on it finds what it finds in the whole
-pub record Searching {A : Type 0} (f : Element → List A) (s : List ℕ) (at : ℕ) : Type 0 where
-  pub same : first (eachCut f (cuts (drop at s))) ≡ first (eachCut f (cuts s))
-
-module _ {A : Type 0} {f : Element → List A} {s : List ℕ} {at : ℕ} (inv : Searching f s at) where
-  module _ {t start stop : ℕ} {n : Place} (st : Step s at t start stop n) where
-    pub search-here : {x : A} {xs : List A} → f (record { type = t; inside = take (stop - start) (drop start s) }) ≡ x ∷ xs → first (eachCut f (cuts s)) ≡ some x
-    search-here e = sym (inv .same) ∙ ap first (each-found f st) ∙ rw e
-
-    pub search-on : f (record { type = t; inside = take (stop - start) (drop start s) }) ≡ [] → Searching f s (n .at)
-    search-on e = record { same = sym (ap first (each-found f st) ∙ rw e) ∙ inv .same }
-
-  pub search-none : Stop s at → first (eachCut f (cuts s)) ≡ none
-  search-none st = sym (inv .same) ∙ ap first (each-stop f st)

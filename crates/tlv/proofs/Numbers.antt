@@ -13,7 +13,7 @@ use lib.Seq.{drop-cons}
 use lib.Dec.{leb, ltb, eqb}
 use Rattle.tlv.specs.Bytes.{bigEndian}
 use Rattle.tlv.specs.Number.{Num, unreadable, num, number, wide, width, least, integerSize}
-use Rattle.tlv.specs.Reading.{numberAt, numberFrom}
+use Rattle.tlv.specs.Answers.{numberAt, numberFrom}
 use Rattle.tlv.specs.declared.NumberRead.{NumberRead}
 use Rattle.tlv.specs.declared.NumberRead.the-variants.{Value, Unreadable}
 
@@ -30,7 +30,7 @@ module _ (s : List ℕ) (at : ℕ) where
     unfolding numberAt number
     one-byte lt = rw (drop-next s at h, lt-ltb _ _ lt)
 
-    -- behind the first byte stand w bytes, at least l
+    -- w bytes follow the first, and spell at least l
     module _ (ge : 253 ≤ getD s at 0) where
       abbrev w : ℕ
       w = width (getD s at 0)

@@ -173,7 +173,8 @@ module _ (b : List ℕ) {h : ℕ} {e : Element} {r : List ℕ} (by : Bytes b) (p
       record { type-ok = w .ok; length-ok = rw (w .inside-length) (number-fits (drop (w .type-size) b) (w .size) (w .length-size) (bytes-drop (w .type-size) b by) (w .sized-is)) }
 
 -- an element that was read takes as many bytes as its encoding
-pub element-size : (b : List ℕ) {h : ℕ} {e : Element} {r : List ℕ} → Bytes b → element b ≡ first h e r → length (elementBytes e) + length r ≡ length b
+pub element-size : (b : List ℕ) {h : ℕ} {e : Element} {r : List ℕ} → Bytes b → element b ≡ first h e r
+    → length (elementBytes e) + length r ≡ length b
 element-size b {h} {e} {r} by p = sym (length-append (elementBytes e) r) ∙ ap length (element-bytes b by p)
 
 pub step-size : {s : List ℕ} {at kind start stop : ℕ} {n : Place} → Bytes s → (f : Step s at kind start stop n)
@@ -217,16 +218,16 @@ pub nexts-split : (b : List ℕ) (es : List Element) → split b ≡ some es →
 unfolding split
 nexts-split b es p = whole-some (cuts b) es p
 
--- what was cut off the front, and the bytes behind it, from which the rest was cut
+-- what was cut off the front, and the bytes after it, from which the rest was cut
 pub record CutOff (b : List ℕ) (es : List Element) (c : Cuts) : Type 0 where
-  pub behind : List ℕ
-  pub front-is : b ≡ encode es ++ behind
-  pub rest-is : cuts behind ≡ c
+  pub left : List ℕ
+  pub front-is : b ≡ encode es ++ left
+  pub rest-is : cuts left ≡ c
 
--- bytes are the encoding of what is cut off them, and then what is behind it
+-- bytes are the encoding of what is cut off them, and then what comes after it
 pub encode-cuts : (es : List Element) (c : Cuts) (b : List ℕ) → Bytes b → cuts b ≡ nexts es c → CutOff b es c
 unfolding encode
-encode-cuts [] c b by p = record { behind = b; front-is = refl; rest-is = p }
+encode-cuts [] c b by p = record { left = b; front-is = refl; rest-is = p }
 encode-cuts (e ∷ es) c b by p = go (element b) refl (encode-cuts es c)
   where
     go : (f : First) → element b ≡ f → ((r : List ℕ) → Bytes r → cuts r ≡ nexts es c → CutOff r es c) → CutOff b (e ∷ es) c
@@ -239,7 +240,7 @@ encode-cuts (e ∷ es) c b by p = go (element b) refl (encode-cuts es c)
         let goes : cuts r ≡ nexts es c = cc in
         let o = rec r (rw (w .rest-is) (bytes-drop (h + w .size) b by)) goes in
         record {
-          behind = o .behind;
+          left = o .left;
           front-is = rw append-assoc (sym (whole-bytes b by w) ∙ (λ i. elementBytes (same i) ++ o .front-is i));
           rest-is = o .rest-is;
         }
@@ -248,7 +249,7 @@ encode-cuts (e ∷ es) c b by p = go (element b) refl (encode-cuts es c)
 pub encode-split : (b : List ℕ) → Bytes b → (es : List Element) → split b ≡ some es → encode es ≡ b
 encode-split b by es p =
     let o = encode-cuts es done b by (nexts-split b es p) in
-    let nothing : o .behind ≡ [] = done-nil (o .behind) (o .rest-is) in
+    let nothing : o .left ≡ [] = done-nil (o .left) (o .rest-is) in
     sym (o .front-is ∙ rw (nothing, append-nil))
 
 pub encode-bytes : (es : List Element) → Each InRange es → Each (λ e. Bytes (e .inside)) es → Bytes (encode es)

@@ -50,7 +50,8 @@ numberBytes-mono m n h =
 
 -- ---- the size of an element
 
-pub length-elementBytes : (e : Element) → length (elementBytes e) ≡ length (numberBytes (e .type)) + (length (numberBytes (length (e .inside))) + length (e .inside))
+pub length-elementBytes : (e : Element)
+    → length (elementBytes e) ≡ length (numberBytes (e .type)) + (length (numberBytes (length (e .inside))) + length (e .inside))
 unfolding elementBytes
 length-elementBytes e = simp length-append
 

@@ -19,7 +19,7 @@ typeInRange t = leb 1 t && leb t 4294967295
 
 -- ---- reading
 
--- what stands first in a list of bytes: nothing, no element, or an element, with the size of its header (type and length) and what is behind it
+-- what stands first in a list of bytes: nothing, no element, or an element, with the size of its header (type and length) and what comes after it
 pub data First : Type 0 where
   end : First
   malformed : First
@@ -50,7 +50,7 @@ pub data Cuts : Type 0 where
   broken : Cuts
   next : (e : Element) (rest : Cuts) → Cuts
 
--- `go` cuts what is behind the first element
+-- `go` cuts what comes after the first element
 abbrev pub after : First → (List ℕ → Cuts) → Cuts
 after end go = done
 after malformed go = broken

@@ -1,7 +1,7 @@
 pub mod Bytes
 pub mod Number
 pub mod Element
-pub mod Reading
+pub mod Answers
 pub mod Spelled
 pub mod Lists
 pub mod Fields

@@ -9,7 +9,7 @@ use lib.Dec.{ltb, leb, eqb}
 use lib.ListN.{length, take}
 use Rattle.tlv.specs.Bytes.{bigEndian, bigEndianBytes}
 
--- behind a first byte of 253, 254 or 255: how many bytes spell the number
+-- after a first byte of 253, 254 or 255: how many bytes spell the number
 unfoldable pub width : ℕ → ℕ
 width b = cond (eqb b 253) 2 (cond (eqb b 254) 4 8)
 
@@ -22,7 +22,7 @@ pub data Num : Type 0 where
   unreadable : Num
   num : (value size : ℕ) → Num
 
--- a number of w bytes, at least l, behind the first byte
+-- a number of w bytes, at least l, after the first byte
 unfoldable pub wide : ℕ → ℕ → List ℕ → Num
 wide w l bs =
     cond (leb w (length bs)) (cond (leb l (bigEndian (take w bs))) (num (bigEndian (take w bs)) (1 + w)) unreadable) unreadable

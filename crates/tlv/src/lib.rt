@@ -6,7 +6,7 @@ ghost use lib.ListN.{length};
 ghost use Rattle.tlv.specs.Bytes.{sameBytes};
 ghost use Rattle.tlv.specs.Number.{width, least, integerSize};
 ghost use Rattle.tlv.specs.Fields.{InsideOf, numberOf, theInteger};
-ghost use Rattle.tlv.specs.Reading.{numberAt, readAt, integerOf};
+ghost use Rattle.tlv.specs.Answers.{numberAt, readAt, integerOf};
 ghost use Rattle.tlv.specs.Spelled.{Spelled};
 
 // A position in a slice. It moves forward only by whole elements.
@@ -16,7 +16,7 @@ pub struct Place {
 
 // What stands at a place.
 pub enum Read {
-    // An element: its inside is the part from start to end, and next is the place behind it.
+    // An element: its inside is the part from start to end, and next is the place after it.
     Found {
         typ: u32,
         start: usize,
@@ -234,7 +234,7 @@ fn number(s: &[u8], at: usize) -> NumberRead
     }
 }
 
-// How many bytes spell the number behind a first byte of 253, 254 or 255.
+// How many bytes spell the number after a first byte of 253, 254 or 255.
 fn width_of(b: u8) -> usize
     ensures { λ r. ⌜ r ≡ width b ⌝ }
 {

@@ -1,72 +1,54 @@
--- A count that goes on element by element: what a turn of `count_of_type` keeps, and what its answers are. Assumes nothing.
+-- What a turn of `count_of_type` keeps, and what its answers are. Assumes nothing.
 use mathlib.Core.Path.{_≡_, refl, sym, ap, _∙_}
-use mathlib.Core.Bool.{Bool, true, false}
+use mathlib.Core.Logic.{inl}
+use mathlib.Core.Bool.{true, false}
 use mathlib.Core.List.{List}
 use mathlib.Core.Option.{Option, none, some}
-use Prim.Native.Nat.{ℕ, _+_, _≤_}
+use Prim.Native.Nat.{ℕ, _+_, _<_}
 use native.Mathlib.Omega.{arith}
-use borrow.Author.Tests.{eq-eqb, ne-eqb}
-use lib.Dec.{eqb}
 use lib.ListN.{length, drop}
 use Rattle.tlv.specs.Element.{Element, done, broken, cuts, also, split}
+use Rattle.tlv.specs.Lists.{isSome}
+use Rattle.tlv.specs.Fields.{insides}
 use Rattle.tlv.specs.declared.Place.{Place}
 use Rattle.tlv.proofs.Cuts.{Step, split-end, split-broken, split-next}
-use Rattle.tlv_reader.specs.declared.Count.{Count}
+use Rattle.tlv.proofs.Gathered.{Stop, insides-found, insides-other, insides-stop, insides-most, Gathered, counted, started, took, passed, ended, one-left}
 use Rattle.tlv_reader.specs.declared.Count.the-variants.{Elements, Malformed}
-use Rattle.tlv_reader.specs.Count.{one, ofType, countFrom, countOf}
+use Rattle.tlv_reader.specs.Count.{countOf}
 
--- n elements more
-abbrev plus : ℕ → Count → Count
-plus n (Elements m) = Elements (n + m)
-plus n Malformed = Malformed
-
--- n elements of type t stand before `at`, each of a byte or more
+-- n elements of type t stand before `at`, and the rest is elements and nothing else where the whole is
 pub record Counted (s : List ℕ) (t at n : ℕ) : Type 0 where
-  pub rest-is : plus n (countOf t (drop at s)) ≡ countOf t s
-  pub below : n ≤ at
+  pub before : Gathered counted (insides t) s at n
+  pub rest : isSome (split (drop at s)) ≡ isSome (split s)
 
-plus-none : (c : Count) → plus 0 c ≡ c
-plus-none (Elements m) = ap Elements (omega arith)
-plus-none Malformed = refl
+pub none-counted : {s : List ℕ} {t : ℕ} → Counted s t 0 0
+none-counted = record { before = started; rest = refl }
 
-pub starts : (s : List ℕ) (t : ℕ) → Counted s t 0 0
-starts s t = record { rest-is = plus-none (countOf t s); below = omega arith }
-
-plus-next : (t n : ℕ) (e : Element) (o : Option (List Element)) → plus (n + one (eqb t (e .type))) (countFrom t o) ≡ plus n (countFrom t (also e o))
-unfolding ofType
-plus-next t n e none = refl
-plus-next t n e (some es) = ap Elements (omega arith)
-
-one-small : (b : Bool) → one b ≤ 1
-unfolding one
-one-small true = omega arith
-one-small false = omega arith
-
-pub one-same : (a b : ℕ) → a ≡ b → 1 ≡ one (eqb a b)
-unfolding one
-one-same a b p = rw (eq-eqb a b p)
-
-pub one-other : (a b : ℕ) → ¬ (a ≡ b) → 0 ≡ one (eqb a b)
-unfolding one
-one-other a b p = rw (ne-eqb a b p)
+also-some : (e : Element) (o : Option (List Element)) → isSome (also e o) ≡ isSome o
+also-some e none = refl
+also-some e (some es) = refl
 
 module _ {s : List ℕ} {t at n : ℕ} (c : Counted s t at n) where
-  module _ {kind start stop k : ℕ} {p : Place} (seen : Step s at kind start stop p) (is : k ≡ one (eqb t kind)) where
-    pub adds : n + k ≤ length s
-    adds = omega (arith, one-small (eqb t kind), c .below, seen .before, seen .order, seen .within)
+  module _ {kind start stop : ℕ} {p : Place} (st : Step s at kind start stop p) where
+    rest-later : isSome (split (drop (p .at) s)) ≡ isSome (split s)
+    rest-later = sym (ap isSome (split-next (drop at s) (drop (p .at) s) _ (st .cut-is)) ∙ also-some _ (split (drop (p .at) s))) ∙ c .rest
 
-    pub goes-on : Counted s t (p .at) (n + k)
-    unfolding countOf
-    goes-on =
-        record {
-          rest-is = rw is (plus-next t n _ (split (drop (p .at) s))) ∙ ap (λ (o : Option (List Element)). plus n (countFrom t o)) (sym (split-next (drop at s) (drop (p .at) s) _ (seen .cut-is))) ∙ c .rest-is;
-          below = omega (arith, one-small (eqb t kind), c .below, seen .before, seen .order, seen .moved);
-        }
+    pub room : kind ≡ t → n < length s
+    room e = omega (arith, one-left (c .before) (insides-found t st e), insides-most t s)
 
-  pub ends : cuts (drop at s) ≡ done → Elements n ≡ countOf t s
-  unfolding countOf ofType
-  ends p = ap Elements (omega arith) ∙ ap (λ (o : Option (List Element)). plus n (countFrom t o)) (sym (split-end (drop at s) p)) ∙ c .rest-is
+    pub one-more : kind ≡ t → Counted s t (p .at) (n + 1)
+    one-more e = record { before = took (c .before) (insides-found t st e) refl; rest = rest-later }
 
-  pub breaks : cuts (drop at s) ≡ broken → Malformed ≡ countOf t s
+    pub no-more : (kind ≡ t → ⊥) → Counted s t (p .at) n
+    no-more e = record { before = passed (c .before) (insides-other t st e); rest = rest-later }
+
+  pub counted-end : cuts (drop at s) ≡ done → Elements n ≡ countOf t s
   unfolding countOf
-  breaks p = ap (λ (o : Option (List Element)). plus n (countFrom t o)) (sym (split-broken (drop at s) p)) ∙ c .rest-is
+  counted-end e =
+      let w : isSome (split s) ≡ true = sym (c .rest) ∙ ap isSome (split-end (drop at s) e) in
+      let stop : Stop s at = record { cut-is = inl e } in
+      rw w (ap Elements (ended (c .before) (insides-stop t stop)))
+
+  pub counted-broken : cuts (drop at s) ≡ broken → Malformed ≡ countOf t s
+  unfolding countOf
+  counted-broken e = let w : isSome (split s) ≡ false = sym (c .rest) ∙ ap isSome (split-broken (drop at s) e) in rw w

@@ -1,14 +1,12 @@
 // Document 01's element reader: it keeps hold of the bytes and of its place in them. Any bytes and any place have an answer.
 //
-// The borrow checker covers no function over a struct that holds a reference: the four methods, and the three functions
+// The borrow checker covers no function over a struct that holds a reference: the three methods, and the two functions
 // that make a reader, are proved by hand. Each leaves the work to a covered function on the slice and the place, and a
-// caller of the three needs no such proof.
+// caller of the two needs no such proof.
 ghost use mathlib.Core.Path.{_≡_};
-ghost use lib.Dec.{eqb};
-ghost use Rattle.tlv.specs.Element.{element};
-ghost use Rattle.tlv.specs.Reading.{readAt};
-ghost use Rattle.tlv_reader.specs.Reading.{behind, moved, endsAt, endsBehind, insideAt, isOne};
-ghost use Rattle.tlv_reader.specs.Count.{one, countOf};
+ghost use Rattle.tlv.specs.Answers.{readAt};
+ghost use Rattle.tlv_reader.specs.Methods.{placeAfter, moved, insideAt};
+ghost use Rattle.tlv_reader.specs.Count.{countOf};
 use tlv::Place;
 use tlv::Read;
 
@@ -31,13 +29,13 @@ impl<'a> Reader<'a> {
         Reader { src, at }
     }
 
-    // The element at the place. The reader is moved behind it, and stays where none stands.
+    // The element at the place. The reader moves past it, and stays where none stands.
     pub fn next(&mut self) -> Read
         ensures { λ r. ⌜ (r ≡ readAt (now (now (self .entry) .src)) (now (self .entry) .at)) × (now (self .exit) ≡ moved (now (self .entry))) ⌝ }
     {
         let at = self.at;
         let read = element_at(self.src, at);
-        self.at = place_behind(read, at);
+        self.at = place_after(read, at);
         read
     }
 
@@ -49,13 +47,6 @@ impl<'a> Reader<'a> {
             src: inside_at(self.src, self.at),
             at: 0,
         }
-    }
-
-    // Whether nothing stands at the place. Malformed bytes are something.
-    pub fn at_end(self) -> bool
-        ensures { λ r. ⌜ r ≡ endsAt (now (self .entry .src)) (self .entry .at) ⌝ }
-    {
-        ends_at(self.src, self.at)
     }
 }
 
@@ -75,36 +66,6 @@ pub fn inside_from<'a>(s: &'a [u8], at: usize) -> &'a [u8]
     reader.src
 }
 
-// Whether nothing stands behind the element at a place; where none stands, whether the slice ends there.
-pub fn ends_behind(s: &[u8], at: usize) -> bool
-    ensures { λ r. ⌜ r ≡ endsBehind (now (s .entry)) at ⌝ }
-{
-    let mut reader = Reader::new(s, at);
-    reader.next();
-    reader.at_end()
-}
-
-// Whether the bytes are one element of type `typ` with nothing behind it, as a name is one of type 7.
-pub fn is_element(s: &[u8], typ: u32) -> bool
-    ensures { λ r. ⌜ r ≡ isOne typ (element (now (s .entry))) ⌝ }
-{
-    match element_from(s, 0) {
-        Read::Found {
-            typ: t,
-            start: _,
-            end: _,
-            next: _,
-        } => {
-            if t != typ {
-                return false;
-            }
-            ends_behind(s, 0)
-        }
-        Read::End => false,
-        Read::Malformed => false,
-    }
-}
-
 // How many elements of type `typ` the bytes are made of. An inside is not looked into.
 pub fn count_of_type(s: &[u8], typ: u32) -> Count
     ensures { λ r. ⌜ r ≡ countOf typ (now (s .entry)) ⌝ }
@@ -119,8 +80,10 @@ pub fn count_of_type(s: &[u8], typ: u32) -> Count
                 end: _,
                 next,
             } => {
-                n += one_if_same(typ, t);
                 at = next.at;
+                if t == typ {
+                    n += 1;
+                }
             }
             Read::End => {
                 return Count::Elements(n);
@@ -132,12 +95,6 @@ pub fn count_of_type(s: &[u8], typ: u32) -> Count
     }
 }
 
-fn one_if_same(a: u32, b: u32) -> usize
-    ensures { λ r. ⌜ r ≡ one (eqb a b) ⌝ }
-{
-    if a == b { 1 } else { 0 }
-}
-
 // The covered functions that the methods call.
 fn element_at(src: &[u8], at: usize) -> Read
     ensures { λ r. ⌜ r ≡ readAt (now (src .entry)) at ⌝ }
@@ -145,9 +102,9 @@ fn element_at(src: &[u8], at: usize) -> Read
     Place { at }.element(src)
 }
 
-// The place behind what was read at `at`.
-fn place_behind(read: Read, at: usize) -> usize
-    ensures { λ r. ⌜ r ≡ behind read at ⌝ }
+// The place after what was read at `at`.
+fn place_after(read: Read, at: usize) -> usize
+    ensures { λ r. ⌜ r ≡ placeAfter read at ⌝ }
 {
     match read {
         Read::Found {
@@ -159,12 +116,6 @@ fn place_behind(read: Read, at: usize) -> usize
         Read::End => at,
         Read::Malformed => at,
     }
-}
-
-fn ends_at(src: &[u8], at: usize) -> bool
-    ensures { λ r. ⌜ r ≡ endsAt (now (src .entry)) at ⌝ }
-{
-    src.len() <= at
 }
 
 fn inside_at<'a>(src: &'a [u8], at: usize) -> &'a [u8]

@@ -22,8 +22,8 @@ enum-told-3 c = search needs
 enum-told-4 : tie.Need-enum-told-4
 enum-told-4 c = search needs
 
-judge-requires : tie.Need-judge-requires
-judge-requires c κs = search needs
+check-rules-requires : tie.Need-check-rules-requires
+check-rules-requires c κs = search needs
 
 enum-known-nodes : tie.Need-enum-known-nodes
 enum-known-nodes c = search needs
@@ -41,10 +41,10 @@ returns-3 : tie.Need-returns-3
 returns-3 c = sym (verdict-unreadable (c .before .before .before .before .args .model .now) (reading-is (c .before .before .before .before .args .model .now) (c .before .before .read-model .ensures) (c .enum-told3 .given .1)))
 
 returns-4 : tie.Need-returns-4
-returns-4 c = verdict-judged (c .before .before .before .before .before .before .before .before .args .model .now) (reading-is (c .before .before .before .before .before .before .before .before .args .model .now) (c .before .before .before .before .before .before .read-model .ensures) (c .before .before .before .before .enum-told4 .given .1)) (sym (ap judgedOf (c .before .nodes .given .1)) ∙ c .before .before .before .judge .ensures)
+returns-4 c = verdict-judged (c .before .before .before .before .before .before .before .before .args .model .now) (reading-is (c .before .before .before .before .before .before .before .before .args .model .now) (c .before .before .before .before .before .before .read-model .ensures) (c .before .before .before .before .enum-told4 .given .1)) (sym (ap judgedOf (c .before .nodes .given .1)) ∙ c .before .before .before .check-rules .ensures)
 
 returns-5 : tie.Need-returns-5
-returns-5 c = verdict-judged (c .before .before .before .before .before .before .before .before .args .model .now) (reading-is (c .before .before .before .before .before .before .before .before .args .model .now) (c .before .before .before .before .before .before .read-model .ensures) (c .before .before .before .before .enum-told4 .given .1)) (sym (ap judgedOf (c .before .rule .given .1)) ∙ c .before .before .before .judge .ensures)
+returns-5 c = verdict-judged (c .before .before .before .before .before .before .before .before .args .model .now) (reading-is (c .before .before .before .before .before .before .before .before .args .model .now) (c .before .before .before .before .before .before .read-model .ensures) (c .before .before .before .before .enum-told4 .given .1)) (sym (ap judgedOf (c .before .rule .given .1)) ∙ c .before .before .before .check-rules .ensures)
 
 pub judge-model-spec : {M : Type 1} → statement M
 judge-model-spec =
@@ -55,7 +55,7 @@ judge-model-spec =
     enum-told-2
     enum-told-3
     enum-told-4
-    judge-requires
+    check-rules-requires
     enum-known-nodes
     enum-known-rule
     returns

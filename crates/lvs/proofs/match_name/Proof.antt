@@ -1,7 +1,7 @@
 -- `lvs::match_name` meets its contract: what the callees answered says which case of `matchOutcome` it is. Assumes nothing.
 use borrow.Author.Needs.{needs}
 use mathlib.Core.Path.{refl, sym, ap, _∙_}
-use Rattle.lvs_names.specs.Reading.{nameRead}
+use Rattle.lvs_names.specs.Answers.{nameRead}
 use Rattle.lvs.specs.Readings.{verdictOf}
 use Rattle.lvs_walk.proofs.Answers.{found-none, found-match}
 use Rattle.lvs.proofs.Calls.{small, name-short, match-refused, match-bad-name, match-no-room, match-none, match-some}

@@ -1,7 +1,7 @@
 -- `lvs::sign` meets its contract: what the callees answered says which case of `signAnswer` it is. Assumes nothing.
 use borrow.Author.Needs.{needs}
 use mathlib.Core.Path.{sym, ap, _∙_}
-use Rattle.lvs_names.specs.Reading.{nameRead}
+use Rattle.lvs_names.specs.Answers.{nameRead}
 use Rattle.lvs.specs.Readings.{verdictOf}
 use Rattle.lvs_walk.proofs.Answers.{found-no-pair, found-pair}
 use Rattle.lvs.proofs.Calls.{small, name-short, sign-refused, sign-bad-packet, sign-bad-key, sign-none, sign-some}

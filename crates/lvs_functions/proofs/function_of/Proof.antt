@@ -1,9 +1,26 @@
 -- `lvs_functions::function_of` meets its contract: each comparison is a step of `functionIn`. Assumes nothing.
 use borrow.Author.Needs.{needs}
-use mathlib.Core.Path.{sym, _∙_}
-use Rattle.lvs_functions.proofs.Functions.{is-eq, is-eq-type, is-id, is-year, is-unknown}
+use mathlib.Core.Path.{_≡_, sym, _∙_}
+use mathlib.Core.Bool.{false}
+use mathlib.Core.List.{List}
+use Prim.Native.Nat.{ℕ}
+use Rattle.tlv.specs.Bytes.{sameBytes}
+use Rattle.lvs_functions.proofs.Functions.{eqName, eqTypeName, idName, is-eq, is-eq-type, is-id, is-year, is-unknown}
 use Rattle.lvs_functions.proofs.function_of.Statement.{statement}
 use Rattle.lvs_functions.proofs.function_of.Tie as tie
+
+-- what each comparison that failed says of the name
+abbrev name : tie.Else1 → List ℕ
+name c = c .before .before .before .before .args .s .now
+
+not-eq : (c : tie.Else1) → sameBytes (name c) eqName ≡ false
+not-eq c = sym (c .before .same-bytes .ensures) ∙ c .if1 .left
+
+not-eq-type : (c : tie.Else2) → sameBytes (name (c .before .before .before)) eqTypeName ≡ false
+not-eq-type c = sym (c .before .same-bytes2 .ensures) ∙ c .if2 .left
+
+not-id : (c : tie.Else3) → sameBytes (name (c .before .before .before .before .before .before)) idName ≡ false
+not-id c = sym (c .before .same-bytes3 .ensures) ∙ c .if3 .left
 
 slice-aggregate-same-bytes : tie.Need-slice-aggregate-same-bytes
 slice-aggregate-same-bytes c = search needs
@@ -21,7 +38,7 @@ same-bytes-requires-2 : tie.Need-same-bytes-requires-2
 same-bytes-requires-2 c κs = search needs
 
 returns-2 : tie.Need-returns-2
-returns-2 c = is-eq-type _ (sym (c .before .before .before .before .same-bytes .ensures) ∙ c .before .before .before .if1 .left) (sym (c .before .same-bytes2 .ensures) ∙ c .if2 .taken)
+returns-2 c = is-eq-type _ (not-eq (c .before .before .before)) (sym (c .before .same-bytes2 .ensures) ∙ c .if2 .taken)
 
 slice-aggregate-same-bytes-3 : tie.Need-slice-aggregate-same-bytes-3
 slice-aggregate-same-bytes-3 c = search needs
@@ -30,7 +47,9 @@ same-bytes-requires-3 : tie.Need-same-bytes-requires-3
 same-bytes-requires-3 c κs = search needs
 
 returns-3 : tie.Need-returns-3
-returns-3 c = is-id _ (sym (c .before .before .before .before .before .before .before .same-bytes .ensures) ∙ c .before .before .before .before .before .before .if1 .left) (sym (c .before .before .before .before .same-bytes2 .ensures) ∙ c .before .before .before .if2 .left) (sym (c .before .same-bytes3 .ensures) ∙ c .if3 .taken)
+returns-3 c =
+    let d = c .before .before .before in
+    is-id _ (not-eq (d .before .before .before)) (not-eq-type d) (sym (c .before .same-bytes3 .ensures) ∙ c .if3 .taken)
 
 slice-aggregate-same-bytes-4 : tie.Need-slice-aggregate-same-bytes-4
 slice-aggregate-same-bytes-4 c = search needs
@@ -39,10 +58,16 @@ same-bytes-requires-4 : tie.Need-same-bytes-requires-4
 same-bytes-requires-4 c κs = search needs
 
 returns-4 : tie.Need-returns-4
-returns-4 c = is-year _ (sym (c .before .before .before .before .before .before .before .before .before .before .same-bytes .ensures) ∙ c .before .before .before .before .before .before .before .before .before .if1 .left) (sym (c .before .before .before .before .before .before .before .same-bytes2 .ensures) ∙ c .before .before .before .before .before .before .if2 .left) (sym (c .before .before .before .before .same-bytes3 .ensures) ∙ c .before .before .before .if3 .left) (sym (c .before .same-bytes4 .ensures) ∙ c .if4 .taken)
+returns-4 c =
+    let d = c .before .before .before in
+    let e = d .before .before .before in
+    is-year _ (not-eq (e .before .before .before)) (not-eq-type e) (not-id d) (sym (c .before .same-bytes4 .ensures) ∙ c .if4 .taken)
 
 returns-5 : tie.Need-returns-5
-returns-5 c = is-unknown _ (sym (c .before .before .before .before .before .before .before .before .before .before .same-bytes .ensures) ∙ c .before .before .before .before .before .before .before .before .before .if1 .left) (sym (c .before .before .before .before .before .before .before .same-bytes2 .ensures) ∙ c .before .before .before .before .before .before .if2 .left) (sym (c .before .before .before .before .same-bytes3 .ensures) ∙ c .before .before .before .if3 .left) (sym (c .before .same-bytes4 .ensures) ∙ c .if4 .left)
+returns-5 c =
+    let d = c .before .before .before in
+    let e = d .before .before .before in
+    is-unknown _ (not-eq (e .before .before .before)) (not-eq-type e) (not-id d) (sym (c .before .same-bytes4 .ensures) ∙ c .if4 .left)
 
 pub function-of-spec : {M : Type 1} → statement M
 function-of-spec =

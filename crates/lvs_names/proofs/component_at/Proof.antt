@@ -18,7 +18,10 @@ enum-told-2 : tie.Need-enum-told-2
 enum-told-2 c = search needs
 
 returns : tie.Need-returns
-returns c = row-next (λ i. c .before .before .before .before .shared-slice-known .given i .fits) (seen _ _ (c .before .before .before .element .ensures) (c .before .end .given .1))
+returns c =
+    row-next
+    (λ i. c .before .before .before .before .shared-slice-known .given i .fits)
+    (seen _ _ (c .before .before .before .element .ensures) (c .before .end .given .1))
 
 returns-2 : tie.Need-returns-2
 returns-2 c = row-done _ _ (seen _ _ (c .before .before .element .ensures) (c .enum-told .given .1))

@@ -1,10 +1,14 @@
 -- `lvs_names::header` meets its contract. Assumes nothing.
 use borrow.Author.Needs.{needs}
-use Rattle.tlv.proofs.Cuts.{first-seen}
+use Rattle.tlv.proofs.Cuts.{seen, SeenOf, first-seen}
 use mathlib.Core.Path.{sym}
 use Rattle.lvs_names.proofs.Names.{header-end, header-malformed, header-type, header-more, header-found}
 use Rattle.lvs_names.proofs.header.Statement.{statement}
 use Rattle.lvs_names.proofs.header.Tie as tie
+
+-- the element that was found
+step : (c : tie.After-typ) → SeenOf _ _ (c .before .before .element .ensures) (c .typ .given .1)
+step c = seen _ _ (c .before .before .element .ensures) (c .typ .given .1)
 
 element-requires : tie.Need-element-requires
 element-requires c κs = search needs
@@ -13,10 +17,10 @@ enum-known-typ : tie.Need-enum-known-typ
 enum-known-typ c = search needs
 
 returns : tie.Need-returns
-returns c = sym (header-type (first-seen _ _ (c .before .before .before .before .element .ensures) (c .before .before .typ .given .1)) (c .if1 .taken))
+returns c = sym (header-type (step (c .before .before)) (c .if1 .taken))
 
 returns-2 : tie.Need-returns-2
-returns-2 c = sym (header-more (first-seen _ _ (c .before .before .before .before .before .element .ensures) (c .before .before .before .typ .given .1)) (c .before .if1 .left) (c .if2 .taken))
+returns-2 c = sym (header-more (step (c .before .before .before)) (c .before .if1 .left) (c .if2 .taken))
 
 enum-told : tie.Need-enum-told
 enum-told c = search needs
@@ -25,7 +29,7 @@ enum-told-2 : tie.Need-enum-told-2
 enum-told-2 c = search needs
 
 returns-3 : tie.Need-returns-3
-returns-3 c = sym (header-found (first-seen _ _ (c .before .before .before .before .before .element .ensures) (c .before .before .before .typ .given .1)) (c .before .if1 .left) (c .if2 .left))
+returns-3 c = sym (header-found (step (c .before .before .before)) (c .before .if1 .left) (c .if2 .left))
 
 returns-4 : tie.Need-returns-4
 returns-4 c = sym (header-end _ (first-seen _ _ (c .before .before .element .ensures) (c .enum-told .given .1)))

@@ -7,11 +7,13 @@ use borrow.Author.Needs.{needs}
 use lib.ListN.{length, length-take, length-drop}
 use borrow.Fn.Kinds.{In, Out}
 use borrow.Fn.PlainCycle.{Measures, is, falls, and}
-use Rattle.tlv.proofs.Cuts.{seen}
-use Rattle.tlv.proofs.Gathered.{stop-end, stop-malformed}
+use Rattle.tlv.specs.Fields.{insides}
+use Rattle.tlv.proofs.Cuts.{seen, SeenOf}
+use Rattle.tlv.proofs.Gathered.{stop-end, stop-malformed, insides-other, insides-stop, Gathered, passed, ended}
 use Rattle.lvs_rules.specs.Sorts.{typeOf, itemRule}
-use Rattle.lvs_rules.proofs.Loops.{Sweeping, none-swept, sweep-found, sweep-passed, swept}
-use Rattle.lvs_rules.proofs.Items.{argument-item, call-item, tag-item, option-item, constraint-item, value-edge-item, pattern-edge-item, signer-item, symbol-item}
+use Rattle.lvs_rules.proofs.Loops.{least, none-swept, sweep-found}
+use Rattle.lvs_rules.proofs.Items.{argument-item, call-item, tag-item, option-item, constraint-item, value-edge-item, pattern-edge-item}
+use Rattle.lvs_rules.proofs.Items.{signer-item, symbol-item}
 use Rattle.lvs_rules.proofs.item_rule.Reads as item-rule
 use Rattle.lvs_rules.proofs.item_rule.Kinds as item-rule-kinds
 use Rattle.lvs_rules.proofs.+item_rule+sweep.Lts-item_rule as item-rule-lts
@@ -97,13 +99,21 @@ item-rule-returns : (t : ℕ) → item-rule-need item-rule-lts.Need-returns t
 item-rule-returns t c = argument-item _ _ _ (c .before .enum-told .given .1) (c .argument-rule .ensures)
 
 item-rule-returns-2 : (t : ℕ) → item-rule-need item-rule-lts.Need-returns-2 t
-item-rule-returns-2 t c = call-item _ _ _ (c .before .before .before .enum-told2 .given .1) (c .before .before .arguments-rule .ensures) (c .before .sweep .ensures) (c .lower .ensures)
+item-rule-returns-2 t c =
+    let own = c .before .before in
+    call-item _ _ _ (own .before .enum-told2 .given .1) (own .arguments-rule .ensures) (c .before .sweep .ensures) (c .lower .ensures)
 
 item-rule-returns-3 : (t : ℕ) → item-rule-need item-rule-lts.Need-returns-3 t
 item-rule-returns-3 t c = tag-item _ _ _ (c .before .before .enum-told3 .given .1) (c .before .number-of .ensures) (c .tag-rule .ensures)
 
 item-rule-returns-4 : (t : ℕ) → item-rule-need item-rule-lts.Need-returns-4 t
-item-rule-returns-4 t c = option-item _ _ _ (c .before .before .before .before .before .enum-told4 .given .1) (c .before .before .terms-rule .ensures) (c .before .before .before .before .sweep2 .ensures) (c .before .before .before .sweep3 .ensures) (c .before .lower2 .ensures) (c .lower3 .ensures)
+item-rule-returns-4 t c =
+    let own = c .before .before in
+    let calls = own .before in
+    let tags = calls .before in
+    option-item _ _ _ (tags .before .enum-told4 .given .1) (own .terms-rule .ensures) (tags .sweep2 .ensures) (calls .sweep3 .ensures)
+    (c .before .lower2 .ensures)
+    (c .lower3 .ensures)
 
 item-rule-returns-5 : (t : ℕ) → item-rule-need item-rule-lts.Need-returns-5 t
 item-rule-returns-5 t c = constraint-item _ _ _ (c .before .enum-told5 .given .1) (c .sweep4 .ensures)
@@ -112,7 +122,16 @@ item-rule-returns-6 : (t : ℕ) → item-rule-need item-rule-lts.Need-returns-6 
 item-rule-returns-6 t c = value-edge-item _ _ _ (c .before .before .enum-told6 .given .1) (c .before .number-in .ensures) (c .destination-rule .ensures)
 
 item-rule-returns-7 : (t : ℕ) → item-rule-need item-rule-lts.Need-returns-7 t
-item-rule-returns-7 t c = pattern-edge-item _ _ _ (c .before .before .before .before .before .before .before .enum-told7 .given .1) (c .before .before .before .before .before .before .number-in2 .ensures) (c .before .before .before .before .before .tag-rule2 .ensures) (c .before .before .before .before .number-in3 .ensures) (c .before .before .before .destination-rule2 .ensures) (c .before .before .sweep5 .ensures) (c .before .lower4 .ensures) (c .lower5 .ensures)
+item-rule-returns-7 t c =
+    let constraints = c .before .before in
+    let to = constraints .before in
+    let tag = to .before .before in
+    pattern-edge-item _ _ _ (tag .before .before .enum-told7 .given .1) (tag .before .number-in2 .ensures) (tag .tag-rule2 .ensures)
+    (to .before .number-in3 .ensures)
+    (to .destination-rule2 .ensures)
+    (constraints .sweep5 .ensures)
+    (c .before .lower4 .ensures)
+    (c .lower5 .ensures)
 
 item-rule-returns-8 : (t : ℕ) → item-rule-need item-rule-lts.Need-returns-8 t
 item-rule-returns-8 t c = signer-item _ _ _ (c .before .before .enum-told8 .given .1) (c .before .number-of2 .ensures) (c .signer-rule .ensures)
@@ -133,46 +152,63 @@ sweep-calls t = (
 )
 
 abbrev sweep-Inv-loop : sweep-lts.InvT-loop
-sweep-Inv-loop s sort i parents wanted rule₀ place₀ rule place = Sweeping (itemRule parents i sort) (typeOf sort) s (place .at) rule
+sweep-Inv-loop s sort i parents wanted rule₀ place₀ rule place =
+    Gathered (least (itemRule parents i sort)) (insides (typeOf sort)) s (place .at) rule
 
 abbrev sweep-μ-loop : sweep-lts.MeasureT-loop
 sweep-μ-loop s sort i parents wanted rule₀ place₀ rule place = length s - place .at
 
-abbrev sweep-need : (sweep-lts.Claims → In 2 sweep-kinds.ps → Out 2 sweep-kinds.ps sweep-kinds.r → sweep-lts.InvT-loop → sweep-lts.MeasureT-loop → Type 0) → ℕ → Type 0
+abbrev sweep-need : (sweep-lts.Claims → In 2 sweep-kinds.ps → Out 2 sweep-kinds.ps sweep-kinds.r → sweep-lts.InvT-loop → sweep-lts.MeasureT-loop → Type 0)
+    → ℕ → Type 0
 sweep-need N t = N (sweep-calls t) (sweep-at t) sweep.Post sweep-Inv-loop sweep-μ-loop
+
+-- at an element that was found
+module _ (t : ℕ) (c : sweep-need sweep-lts.After-typ t) where
+  step : SeenOf _ _ (c .before .before .element .ensures) (c .typ .given .1)
+  step = seen _ _ (c .before .before .element .ensures) (c .typ .given .1)
 
 sweep-loop-holds : (t : ℕ) → sweep-need sweep-lts.Need-loop-holds t
 sweep-loop-holds t c = none-swept _ _ _
 
 sweep-sub-item-rule : (t : ℕ) → sweep-need sweep-lts.Need-sub-item-rule t
-sweep-sub-item-rule t c = omega (arith, seen _ _ (c .before .before .before .before .element .ensures) (c .before .before .typ .given .1))
+sweep-sub-item-rule t c = omega (arith, step t (c .before .before))
 
 sweep-part-item-rule-start : (t : ℕ) → sweep-need sweep-lts.Need-part-item-rule-start t
-sweep-part-item-rule-start t c = omega (arith, seen _ _ (c .before .before .before .before .element .ensures) (c .before .before .typ .given .1))
+sweep-part-item-rule-start t c = omega (arith, step t (c .before .before))
 
 sweep-part-item-rule-end : (t : ℕ) → sweep-need sweep-lts.Need-part-item-rule-end t
-sweep-part-item-rule-end t c = omega (arith, seen _ _ (c .before .before .before .before .element .ensures) (c .before .before .typ .given .1))
+sweep-part-item-rule-end t c = omega (arith, step t (c .before .before))
 
 sweep-item-rule-requires : (t : ℕ) → sweep-need sweep-lts.Need-item-rule-requires t
-sweep-item-rule-requires t c κs = (simp (length-take, length-drop) (omega (arith, c .before .before .before .before .before .before .before .before .before .before .pre .0, seen _ _ (c .before .before .before .before .before .element .ensures) (c .before .before .before .typ .given .1))), tt)
+sweep-item-rule-requires t c κs =
+    let turn = c .before .before .before in
+    (simp (length-take, length-drop) (omega (arith, turn .before .before .before .before .before .before .before .pre .0, step t turn)), tt)
 
 sweep-loop-less : (t : ℕ) → sweep-need sweep-lts.Need-loop-less t
-sweep-loop-less t c = omega (arith, seen _ _ (c .before .before .before .before .before .before .before .element .ensures) (c .before .before .before .before .before .typ .given .1))
+sweep-loop-less t c = omega (arith, step t (c .before .before .before .before .before))
 
 sweep-loop-again : (t : ℕ) → sweep-need sweep-lts.Need-loop-again t
-sweep-loop-again t c = sweep-found (c .before .before .before .before .before .before .before .before .loop .inv) (seen _ _ (c .before .before .before .before .before .before .before .element .ensures) (c .before .before .before .before .before .typ .given .1)) (c .before .before .before .if1 .taken ∙ c .before .before .before .before .before .before .before .before .before .type-of .ensures) (c .before .item-rule .ensures) (c .lower .ensures)
+sweep-loop-again t c =
+    let item = c .before .before .before in
+    let turn = item .before .before in
+    let loop = turn .before .before .before in
+    sweep-found _ (loop .loop .inv) (step t turn) (item .if1 .taken ∙ loop .before .type-of .ensures) (c .before .item-rule .ensures) (c .lower .ensures)
 
 sweep-loop-less-2 : (t : ℕ) → sweep-need sweep-lts.Need-loop-less-2 t
-sweep-loop-less-2 t c = omega (arith, seen _ _ (c .before .before .before .before .element .ensures) (c .before .before .typ .given .1))
+sweep-loop-less-2 t c = omega (arith, step t (c .before .before))
 
 sweep-loop-again-2 : (t : ℕ) → sweep-need sweep-lts.Need-loop-again-2 t
-sweep-loop-again-2 t c = sweep-passed (c .before .before .before .before .before .loop .inv) (seen _ _ (c .before .before .before .before .element .ensures) (c .before .before .typ .given .1)) (λ e. c .if1 .left (e ∙ sym (c .before .before .before .before .before .before .type-of .ensures)))
+sweep-loop-again-2 t c =
+    let turn = c .before .before in
+    let loop = turn .before .before .before in
+    passed (loop .loop .inv) (insides-other _ (step t turn) (λ e. c .if1 .left (e ∙ sym (loop .before .type-of .ensures))))
 
 sweep-returns : (t : ℕ) → sweep-need sweep-lts.Need-returns t
-sweep-returns t c = swept (c .before .before .before .loop .inv) (stop-end _ _ (c .before .before .element .ensures) (c .enum-told .given .1))
+sweep-returns t c = ended (c .before .before .before .loop .inv) (insides-stop _ (stop-end _ _ (c .before .before .element .ensures) (c .enum-told .given .1)))
 
 sweep-returns-2 : (t : ℕ) → sweep-need sweep-lts.Need-returns-2 t
-sweep-returns-2 t c = swept (c .before .before .before .loop .inv) (stop-malformed _ _ (c .before .before .element .ensures) (c .enum-told2 .given .1))
+sweep-returns-2 t c =
+    ended (c .before .before .before .loop .inv) (insides-stop _ (stop-malformed _ _ (c .before .before .element .ensures) (c .enum-told2 .given .1)))
 
 pub +item-rule+sweep-spec : {M : Type 1} → statement M
 +item-rule+sweep-spec = close μ-item-rule μ-sweep (λ t. item-rule-lts.spec (item-rule-calls t)

@@ -4,7 +4,7 @@ use native.Mathlib.Omega.{arith}
 use mathlib.Core.Path.{sym, _∙_}
 use lib.Seq.{take-length}
 use Rattle.tlv.specs.Number.{integer}
-use Rattle.tlv.specs.Reading.{integerOf}
+use Rattle.tlv.specs.Answers.{integerOf}
 use Rattle.tlv.proofs.integer_of.Statement.{statement}
 use Rattle.tlv.proofs.integer_of.Tie as tie
 

@@ -6,7 +6,7 @@ use Prim.Native.Nat.{_+_}
 use lib.ListN.{take, drop, getD}
 use Rattle.tlv.specs.Bytes.{bigEndian}
 use Rattle.tlv.specs.Number.{width}
-use Rattle.tlv.specs.Reading.{numberAt}
+use Rattle.tlv.specs.Answers.{numberAt}
 use Rattle.tlv.proofs.Numbers.{none-left, one-byte, too-short, not-shortest, many-bytes, width-size}
 use Rattle.tlv.proofs.number.Statement.{statement}
 use Rattle.tlv.proofs.number.Tie as tie

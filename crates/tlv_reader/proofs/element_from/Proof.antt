@@ -38,12 +38,12 @@ use denote.Triple.Spec.{Meets, tripleOf}
 use denote.Triple.Table.{entered, cited}
 use denote.Triple.Walked.{says, Stays, stay-none, stay-none-slice, walkOf, goes-none, goes-none-slice, Walks, ends-at, walked, walk-meets}
 use denote.Exit.{yes}
-use Rattle.tlv.specs.Reading.{readAt}
+use Rattle.tlv.specs.Answers.{readAt}
 use Rattle.tlv.specs.declared.Read.{Read}
 use Rattle.tlv.proofs.Read as S
 use Rattle.tlv.proofs.Read.Laws as S′
 use Rattle.tlv_reader.specs.declared.Reader.{Reader}
-use Rattle.tlv_reader.specs.Reading.{moved}
+use Rattle.tlv_reader.specs.Methods.{moved}
 use Rattle.tlv_reader.proofs.Reader.Laws as T′
 use Rattle.tlv_reader.proofs.Lent.{lent, Ref, Next, to-next, goes-next, lies-in, lies-out, Back, begins, ends}
 use Rattle.tlv_reader.proofs.Made.{R, spelled, Slice, New, to-new, goes-new, new-said, spells, typed}

@@ -1,9 +1,14 @@
 -- `tlv_reader::inside_at` meets its contract: the part that an element says is its inside. Assumes nothing.
 use borrow.Author.Needs.{needs}
-use Rattle.tlv.proofs.Cuts.{first-seen}
+use native.Mathlib.Omega.{arith}
+use Rattle.tlv.proofs.Cuts.{seen, SeenOf}
 use Rattle.tlv_reader.proofs.Laws.{inside-found, inside-end, inside-malformed}
 use Rattle.tlv_reader.proofs.inside_at.Statement.{statement}
 use Rattle.tlv_reader.proofs.inside_at.Tie as tie
+
+-- the element that was found
+step : (c : tie.After-start) → SeenOf _ _ (c .before .before .element-at .ensures) (c .start .given .1)
+step c = seen _ _ (c .before .before .element-at .ensures) (c .start .given .1)
 
 element-at-requires : tie.Need-element-at-requires
 element-at-requires c κs = search needs
@@ -12,13 +17,13 @@ enum-known-start : tie.Need-enum-known-start
 enum-known-start c = search needs
 
 sub-result : tie.Need-sub-result
-sub-result c = first-seen _ _ (c .before .before .before .element-at .ensures) (c .before .start .given .1) .order
+sub-result c = let st = step (c .before) in omega arith
 
 part-result-start : tie.Need-part-result-start
-part-result-start c = first-seen _ _ (c .before .before .before .element-at .ensures) (c .before .start .given .1) .order
+part-result-start c = let st = step (c .before) in omega arith
 
 part-result-end : tie.Need-part-result-end
-part-result-end c = first-seen _ _ (c .before .before .before .element-at .ensures) (c .before .start .given .1) .within
+part-result-end c = let st = step (c .before) in omega arith
 
 enum-told : tie.Need-enum-told
 enum-told c = search needs

@@ -36,7 +36,7 @@ use denote.Triple.Table.{entered, cited}
 use denote.Triple.Walked.{says, Stays, stay-none, stay-none-slice, walkOf, goes-none, goes-none-slice, Walks, ends-at, walked, walk-meets}
 use denote.Exit.{yes}
 use Rattle.tlv_reader.specs.declared.Reader.{Reader}
-use Rattle.tlv_reader.specs.Reading.{insideAt}
+use Rattle.tlv_reader.specs.Methods.{insideAt}
 use Rattle.tlv_reader.proofs.Reader.Laws as T′
 use Rattle.tlv_reader.proofs.Apart.{Own, Src, src-out}
 use Rattle.tlv_reader.proofs.Made.{R, spelled, Slice, New, to-new, goes-new, new-said, spells, typed}

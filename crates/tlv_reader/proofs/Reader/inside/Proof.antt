@@ -41,7 +41,7 @@ use denote.Triple.Table.{entered, cited}
 use denote.Triple.Walked.{says, Stays, stay-none, walkOf, goes-none, Walks, ends-at, walked, walk-meets}
 use denote.Exit.{yes}
 use denote.Triple.Clauses.{ensured, lasts}
-use Rattle.tlv_reader.specs.Reading.{insideAt}
+use Rattle.tlv_reader.specs.Methods.{insideAt}
 use Rattle.tlv_reader.specs.declared.Reader.{Reader}
 use Rattle.tlv_reader.proofs.Apart.{Own, apart}
 use Rattle.tlv_reader.proofs.Reader as T

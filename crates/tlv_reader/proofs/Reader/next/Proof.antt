@@ -1,4 +1,4 @@
--- `tlv_reader::Reader::next` meets its contract: a walk of its MIR, by hand. The borrow is opened, `element_at` is called on the slice and the place that the struct holds, and `place_behind` on its answer; the place is stored, and the borrow is closed at the struct with the new place.
+-- `tlv_reader::Reader::next` meets its contract: a walk of its MIR, by hand. The borrow is opened, `element_at` is called on the slice and the place that the struct holds, and `place_after` on its answer; the place is stored, and the borrow is closed at the struct with the new place.
 -- What the struct owns can be copied: what src owns goes to the callee, and the rest is kept. All that the proof knows of the callees is that they meet their contracts. Assumes nothing.
 use mathlib.Core.Path.{_≡_, refl, ap}
 use Prim.Native.Nat.{ℕ, _<_, _^_}
@@ -45,12 +45,12 @@ use denote.Triple.Entry.{Vals, onEntry}
 use denote.Triple.Spec.{Meets, tripleOf}
 use denote.Triple.Table.{entered, cited}
 use denote.Triple.Walked.{says, Stays, stay-ref, walkOf, goes-ref, Walks, ends-at, walked, walk-meets}
-use Rattle.tlv.specs.Reading.{readAt}
+use Rattle.tlv.specs.Answers.{readAt}
 use Rattle.tlv.specs.declared.Read.{Read}
 use Rattle.tlv.proofs.Read as S
 use Rattle.tlv.proofs.Read.Laws as S′
 use Rattle.tlv_reader.specs.declared.Reader.{Reader}
-use Rattle.tlv_reader.specs.Reading.{behind}
+use Rattle.tlv_reader.specs.Methods.{placeAfter}
 use Rattle.tlv_reader.proofs.Laws.{moved-is}
 use Rattle.tlv_reader.proofs.Apart.{Own, Src, src-out}
 use Rattle.tlv_reader.proofs.Reader as T
@@ -59,10 +59,10 @@ use Rattle.tlv_reader.proofs.element_at as read
 use Rattle.tlv_reader.proofs.element_at.Symbol as read-def
 use Rattle.tlv_reader.proofs.element_at.Symbol.{name as #element-at}
 use Rattle.tlv_reader.proofs.element_at.Met as read-thm
-use Rattle.tlv_reader.proofs.place_behind as step
-use Rattle.tlv_reader.proofs.place_behind.Symbol as step-def
-use Rattle.tlv_reader.proofs.place_behind.Symbol.{name as #place-behind}
-use Rattle.tlv_reader.proofs.place_behind.Met as step-thm
+use Rattle.tlv_reader.proofs.place_after as step
+use Rattle.tlv_reader.proofs.place_after.Symbol as step-def
+use Rattle.tlv_reader.proofs.place_after.Symbol.{name as #place-after}
+use Rattle.tlv_reader.proofs.place_after.Met as step-thm
 use Rattle.tlv_reader.proofs.Reader.next.Key.{name as #next}
 use Rattle.tlv_reader.proofs.Reader.next as next
 use Rattle.tlv_reader.proofs.Reader.next.Statement as stated
@@ -87,8 +87,8 @@ module _ {M : Type 1} (𝓤 : URA M) (H : Heap 𝓤) (A : Atoms 𝓤) (at-mem : 
   abbrev ElementAt : Contract 𝓤
   ElementAt = tripleOf 𝓤 H A read.signature (read.spec 𝓤 H A at-mem run)
 
-  abbrev PlaceBehind : Contract 𝓤
-  PlaceBehind = tripleOf 𝓤 H A step.signature (step.spec 𝓤 H A at-mem run)
+  abbrev PlaceAfter : Contract 𝓤
+  PlaceAfter = tripleOf 𝓤 H A step.signature (step.spec 𝓤 H A at-mem run)
 
 module _ {M : Type 1} (𝓤 : URA M) (H : Heap 𝓤) (A : Atoms 𝓤) (W : Given 𝓤 H A) (at-mem : Memory → SProp 𝓤) (run : Routine → Fun 𝓤) (κ κ′ : Lft) (q q′ : Share) (bounds : AllOutlive 2 (next.signature .outlives) (κ, (κ′, tt))) (b o : ℕ) (γ : GName) (h : Reader) where
   abbrev x : RefT Reader × Unit {0}
@@ -135,22 +135,22 @@ module _ {M : Type 1} (𝓤 : URA M) (H : Heap 𝓤) (A : Atoms 𝓤) (W : Given
   read-said : (r : Read) → ent 𝓤 (ensured 𝓤 H A read.ended (read.clauses 𝓤 H A at-mem run) (κ′, tt) (h .src, (h .at, tt)) tt r) (fact 𝓤 (r ≡ found))
   read-said r = exE 𝓤 _ (λ ws. snd∗ 𝓤 (sem 𝓤 H A (lasts read.ended (κ′, tt) (h .src, (h .at, tt)) ws)) (fact 𝓤 (r ≡ found)))
 
-  -- the call of `place_behind`, at the answer r with the machine value u
-  abbrev to-step : Read → Val → PlaceBehind 𝓤 H A at-mem run .Ghost
+  -- the call of `place_after`, at the answer r with the machine value u
+  abbrev to-step : Read → Val → PlaceAfter 𝓤 H A at-mem run .Ghost
   to-step r u = ((tt, tt, tt, (r, (h .at, tt)), (u ∷ [], (vint w64 (h .at) ∷ [], tt))), tt)
 
-  goes-step : h .at < 2 ^ 64 → (r : Read) (u : Val) → ent 𝓤 (sem 𝓤 H A (S.the-row .own r (u ∷ []))) (PlaceBehind 𝓤 H A at-mem run .pre (to-step r u))
+  goes-step : h .at < 2 ^ 64 → (r : Read) (u : Val) → ent 𝓤 (sem 𝓤 H A (S.the-row .own r (u ∷ []))) (PlaceAfter 𝓤 H A at-mem run .pre (to-step r u))
   goes-step fits r u =
       qed W (‵ (S.the-row .own r (u ∷ [])) ∷ []) ∵ nothing ! $ owned ! usize (Is usize) (uint-makes 𝓤 H A W w64) (h .at) _ (refl, fits) $ fjoin ! $ move ! (1 ∷ 0 ∷ []) $ fjoin ! $ nothing ! $ join ! $ frame ! $ done !
 
-  step-said : (r : Read) (n : ℕ) → ent 𝓤 (ensured 𝓤 H A step.ended (step.clauses 𝓤 H A at-mem run) tt (r, (h .at, tt)) tt n) (fact 𝓤 (n ≡ behind r (h .at)))
-  step-said r n = exE 𝓤 _ (λ ws. snd∗ 𝓤 (sem 𝓤 H A (lasts step.ended tt (r, (h .at, tt)) ws)) (fact 𝓤 (n ≡ behind r (h .at))))
+  step-said : (r : Read) (n : ℕ) → ent 𝓤 (ensured 𝓤 H A step.ended (step.clauses 𝓤 H A at-mem run) tt (r, (h .at, tt)) tt n) (fact 𝓤 (n ≡ placeAfter r (h .at)))
+  step-said r n = exE 𝓤 _ (λ ws. snd∗ 𝓤 (sem 𝓤 H A (lasts step.ended tt (r, (h .at, tt)) ws)) (fact 𝓤 (n ≡ placeAfter r (h .at))))
 
   -- what src owns is kept, and at's facts are made anew
   again : (n : ℕ) → n < 2 ^ 64 → ent 𝓤 (sem 𝓤 H A (Own (α κ′) h)) (sem 𝓤 H A (Own (α κ′) (h′ n)))
   again n ok = qed W (‵ (Own (α κ′) h) ∷ []) ∵ owned ! usize (Is usize) (uint-makes 𝓤 H A W w64) n _ (refl, ok) $ move ! (1 ∷ 0 ∷ []) $ by ! (own-put 𝓤 H A W D L 1 vd n (T′.lowered h))
 
-  exits : (r : Read) (u : Val) (n : ℕ) → r ≡ found → n ≡ behind r (h .at)
+  exits : (r : Read) (u : Val) (n : ℕ) → r ≡ found → n ≡ placeAfter r (h .at)
       → ent 𝓤 (⋆ 𝓤 H A (‵ (fobs γ (B κ′ .coded .code (h′ n))) ∷ ‵ (fbor κ (Body (mem (B κ′)) b o γ)) ∷ ‵ (flft κ q) ∷ (‵ (flft κ′ q′) ⊛ ‵ ftrue) ∷ ‵ (S.the-row .own r (u ∷ [])) ∷ [])) (Post u)
   exits r u n e f =
       qed W (‵ (fobs γ (B κ′ .coded .code (h′ n))) ∷ ‵ (fbor κ (Body (mem (B κ′)) b o γ)) ∷ ‵ (flft κ q) ∷ (‵ (flft κ′ q′) ⊛ ‵ ftrue) ∷ ‵ (S.the-row .own r (u ∷ [])) ∷ []) ∵
@@ -161,7 +161,7 @@ module _ {M : Type 1} (𝓤 : URA M) (H : Heap 𝓤) (A : Atoms 𝓤) (W : Given
   typed : Is (B κ′) h (T′.lowered h ∷ []) → Holds (hasTy (T′.mir (named 1)) (T′.lowered h)) × WT (T′.lowered h)
   typed was = LL.lawful D L 𝓤 H A W .typed h _ was .0
 
-  module _ (C : Calls 𝓤 H) (Λ : Loops 𝓤 H) (fm : FmC 𝓤 H (W .laws) C) (known-read : Triple 𝓤 (C #element-at) (ElementAt 𝓤 H A at-mem run)) (known-step : Triple 𝓤 (C #place-behind) (PlaceBehind 𝓤 H A at-mem run)) where
+  module _ (C : Calls 𝓤 H) (Λ : Loops 𝓤 H) (fm : FmC 𝓤 H (W .laws) C) (known-read : Triple 𝓤 (C #element-at) (ElementAt 𝓤 H A at-mem run)) (known-step : Triple 𝓤 (C #place-after) (PlaceAfter 𝓤 H A at-mem run)) where
     walk : ent 𝓤 (onEntry 𝓤 H A next.signature (κ, (κ′, tt)) (q, (q′, tt)) x at) (WpFn 𝓤 H C Λ code.function (vptr b o ∷ []) Post)
     walk =
         qed W ((‵ (flft κ q) ⊛ ‵ (flft κ′ q′) ⊛ ‵ ftrue) ∷ ‵ (owns (MutRef (named 0) κ (B κ′) ∷ []) x at) ∷ []) ∵ enter ! C Λ code.function (vptr b o ∷ []) _ $
@@ -179,12 +179,12 @@ module _ {M : Type 1} (𝓤 : URA M) (H : Heap 𝓤) (A : Atoms 𝓤) (W : Given
         split ! $ move ! (1 ∷ []) $ use1 W (raw (fact 𝓤 (r ≡ found))) (read-said r) $ heard ! (r ≡ found) (λ e. split ! $ move ! (1 ∷ []) $
         -- [the answer; 'a's token; what the Reader owns; the cell; the open borrow; obs; auth; true; _5; …; _4; …; room for _3; …; _2; …; _1; …; room for _0; …]
         peeks ! S.the-row (Is S.the-row) (shows 𝓤 H A S.the-row) r (u ∷ []) (λ is. land ! (from ! (stop !)) (init ! 12 refl (EL.lawful S.the-type S′.the-laws 𝓤 H A W tt .typed r _ is .0)) $
-        -- `place_behind`
+        -- `place_after`
         use1 W (‵ (S.the-row .own r (u ∷ [])) ⊛ ‵ (S.the-row .own r (u ∷ []))) (EL.copy S.the-type S′.the-copy 𝓤 H A W .twice r (u ∷ [])) $ split ! $
-        use1 W (raw (PlaceBehind 𝓤 H A at-mem run .pre (to-step r u))) (goes-step (typed was .1 .1 .0 .fits) r u) $
-        calls-at ! fm (PlaceBehind 𝓤 H A at-mem run) known-step (to-step r u) (and-then ! (load ! (from ! (stop !)) (look ! 13 refl)) (and-then ! (load ! (from ! (stop !)) (look ! 15 refl)) (no-more !))) (λ w.
+        use1 W (raw (PlaceAfter 𝓤 H A at-mem run .pre (to-step r u))) (goes-step (typed was .1 .1 .0 .fits) r u) $
+        calls-at ! fm (PlaceAfter 𝓤 H A at-mem run) known-step (to-step r u) (and-then ! (load ! (from ! (stop !)) (look ! 13 refl)) (and-then ! (load ! (from ! (stop !)) (look ! 15 refl)) (no-more !))) (λ w.
         use1 W (later (some (λ (n : ℕ). (‵ ftrue ⊛ ‵ (usize .own n (w ∷ []))) ⊛ raw (ensured 𝓤 H A step.ended (step.clauses 𝓤 H A at-mem run) tt (r, (h .at, tt)) tt n)))) (id⊢ 𝓤 _) $ await ! tt $ pick ! (λ n.
-        split ! $ move ! (1 ∷ []) $ use1 W (raw (fact 𝓤 (n ≡ behind r (h .at)))) (step-said r n) $ heard ! (n ≡ behind r (h .at)) (λ f. split ! $ move ! (1 ∷ []) $
+        split ! $ move ! (1 ∷ []) $ use1 W (raw (fact 𝓤 (n ≡ placeAfter r (h .at)))) (step-said r n) $ heard ! (n ≡ placeAfter r (h .at)) (λ f. split ! $ move ! (1 ∷ []) $
         -- [the place; true; the answer; 'a's token; what the Reader owns; the cell; the open borrow; obs; auth; true; room for _5; …; _4; …; _3; …; _2; …; _1; …; room for _0; …]
         peeks ! usize (Is usize) (shows 𝓤 H A usize) n (w ∷ []) (λ fits. land ! (from ! (stop !)) (init ! 10 refl (uint-lawful 𝓤 H A W w64 .typed n _ fits .0)) $ rewrite ! 10 (λ (z : Val). ‵ (fat fullShare (tyInt w64) l₅ 0 z)) (ap only (fits .0)) refl $
         assigns ! (of-opd ! (load ! (from ! (stop !)) (look ! 10 refl))) (from ! (hop ! (look ! 18 refl) (fld ! refl (stop !)))) (store-in ! 5 (sub ! 1 refl (whole !)) (tt, record { fits = fits .1 })) $
@@ -196,13 +196,13 @@ module _ {M : Type 1} (𝓤 : URA M) (H : Heap 𝓤) (A : Atoms 𝓤) (W : Given
         move ! (18 ∷ 19 ∷ []) $ free1 ! $ move ! (16 ∷ 17 ∷ []) $ free1 ! $ move ! (14 ∷ 15 ∷ []) $ free1 ! $ move ! (12 ∷ 13 ∷ []) $ free1 ! $ move ! (10 ∷ 11 ∷ []) $ free1 ! $ move ! (8 ∷ 9 ∷ []) $ free1 ! $ free0 ! $ keep ! (0 ∷ 1 ∷ 2 ∷ 6 ∷ 5 ∷ []) $ by ! (exits r u n e f)))))))))))))))))
 
 module _ {M : Type 1} (𝓤 : URA M) (H : Heap 𝓤) (A : Atoms 𝓤) (W : Given 𝓤 H A) (mem : Memory → SProp 𝓤) (run : Routine → Fun 𝓤) where
-  next-walks : (C : Calls 𝓤 H) (Λ : Loops 𝓤 H) → FmC 𝓤 H (W .laws) C → Triple 𝓤 (C #element-at) (ElementAt 𝓤 H A mem run) → Triple 𝓤 (C #place-behind) (PlaceBehind 𝓤 H A mem run)
+  next-walks : (C : Calls 𝓤 H) (Λ : Loops 𝓤 H) → FmC 𝓤 H (W .laws) C → Triple 𝓤 (C #element-at) (ElementAt 𝓤 H A mem run) → Triple 𝓤 (C #place-after) (PlaceAfter 𝓤 H A mem run)
       → Walks 𝓤 H A next.ended stayed (WpFn 𝓤 H C Λ code.function) (next.clauses 𝓤 H A mem run)
   next-walks C Λ fm known-read known-step = walked 𝓤 H A next.ended stayed (next.clauses 𝓤 H A mem run) (WpFn 𝓤 H C Λ code.function) (λ κs. (ptr-vals, tt)) (λ κs. (mut-tells (named 0) (κs .0) (B (κs .1 .0)), tt))
       (λ κs qs bounds a g are. via 𝓤 _ (fst∗ 𝓤 _ (emp 𝓤)) (walk 𝓤 H A W mem run (κs .0) (κs .1 .0) (qs .0) (qs .1 .0) bounds (a .0 .ptr .0) (a .0 .ptr .1) (a .0 .name) (a .0 .now) C Λ fm known-read known-step))
 
 next-meets : {M : Type 1} (𝓤 : URA M) (H : Heap 𝓤) (A : Atoms 𝓤) (W : Given 𝓤 H A) (mem : Memory → SProp 𝓤) (run : Routine → Fun 𝓤) (𝓣 : Tables 𝓤 H)
-    → Triple 𝓤 (𝓣 .C #element-at) (ElementAt 𝓤 H A mem run) → Triple 𝓤 (𝓣 .C #place-behind) (PlaceBehind 𝓤 H A mem run)
+    → Triple 𝓤 (𝓣 .C #element-at) (ElementAt 𝓤 H A mem run) → Triple 𝓤 (𝓣 .C #place-after) (PlaceAfter 𝓤 H A mem run)
     → Meets 𝓤 H A next.signature (WpFn 𝓤 H (𝓣 .C) (𝓣 .Λ) code.function) (next.spec 𝓤 H A mem run)
 next-meets 𝓤 H A W mem run 𝓣 known-read known-step = walk-meets 𝓤 H A next.ended stayed W (goes-ref 𝓤 H A W 2 0 tt referent, tt) (next.clauses 𝓤 H A mem run) (WpFn 𝓤 H (𝓣 .C) (𝓣 .Λ) code.function) (WpFn-mono 𝓤 H (W .laws) 𝓣 code.function)
     (next-walks 𝓤 H A W mem run (𝓣 .C) (𝓣 .Λ) (fmOf 𝓤 H (W .laws) 𝓣) known-read known-step)
@@ -214,4 +214,4 @@ next-spec 𝓤 H 𝓜 𝓖 𝓡 =
     (tables 𝓤 H 𝓜 𝓡 code.env .C) (tables 𝓤 H 𝓜 𝓡 code.env .Λ) #next code.function (code.unfolded 𝓤 H 𝓜 𝓡)
     (next-meets 𝓤 H (𝓖 .A) (givenOf 𝓤 H 𝓜 𝓖) (𝓜 .mem) (𝓡 .run) (tablesOf 𝓤 H 𝓜 (tables 𝓤 H 𝓜 𝓡 code.env))
     (cited 𝓤 H (ElementAt 𝓤 H (𝓖 .A) (𝓜 .mem) (𝓡 .run)) 𝓜 𝓡 code.env #element-at read-def.routine code.calls-tlv-reader·element-at (read-thm.met 𝓤 H 𝓜 𝓖 𝓡))
-    (cited 𝓤 H (PlaceBehind 𝓤 H (𝓖 .A) (𝓜 .mem) (𝓡 .run)) 𝓜 𝓡 code.env #place-behind step-def.routine code.calls-tlv-reader·place-behind (step-thm.met 𝓤 H 𝓜 𝓖 𝓡)))
+    (cited 𝓤 H (PlaceAfter 𝓤 H (𝓖 .A) (𝓜 .mem) (𝓡 .run)) 𝓜 𝓡 code.env #place-after step-def.routine code.calls-tlv-reader·place-after (step-thm.met 𝓤 H 𝓜 𝓖 𝓡)))

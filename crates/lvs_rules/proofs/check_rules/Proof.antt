@@ -1,0 +1,40 @@
+-- `lvs_rules::check_rules` meets its contract. Assumes nothing.
+use Rattle.lvs_rules.proofs.Whole.{too-many, as-many, found}
+use borrow.Author.Needs.{needs}
+use Rattle.lvs_rules.proofs.check_rules.Statement.{statement}
+use Rattle.lvs_rules.proofs.check_rules.Tie as tie
+
+returns : tie.Need-returns
+returns c = too-many _ (c .before .count-of .ensures) (c .if1 .taken)
+
+slice-aggregate-parents : tie.Need-slice-aggregate-parents
+slice-aggregate-parents c = as-many _ (c .before .before .before .count-of .ensures) _ (c .before .parents-of .ensures)
+
+returns-2 : tie.Need-returns-2
+returns-2 c =
+    let start = c .before .before in
+    let nodes = start .before .before in
+    let parents = nodes .before .before in
+    let few = parents .before in
+    found _ (few .before .count-of .ensures) _ (parents .parents-of .ensures) (few .if1 .left) (nodes .lowest-fault .ensures)
+    (start .before .sweep .ensures)
+    (start .start-rule .ensures)
+    (c .before .lower .ensures)
+    (c .conclude .ensures)
+
+pub check-rules-spec : {M : Type 1} → statement M
+check-rules-spec =
+    tie.close
+    (tie.spec
+    (λ c κs. search needs)
+    returns
+    (λ c κs. search needs)
+    (λ c. search needs)
+    slice-aggregate-parents
+    (λ c κs. search needs)
+    (λ c κs. search needs)
+    (λ c κs. search needs)
+    (λ c κs. search needs)
+    (λ c. search needs)
+    (λ c κs. search needs)
+    returns-2)

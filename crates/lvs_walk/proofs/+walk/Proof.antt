@@ -1,0 +1,331 @@
+-- `lvs_walk::walk` meets its contract. It calls itself on the components that are left, and from a packet match on the key: that is the measure.
+-- The loop goes over the Node's edges; its invariant `Turn`: no edge so far has a hit, and the bindings are as they were. Assumes nothing.
+use Prim.Native.Nat.{ℕ, _+_, _-_, _<_}
+use mathlib.Core.Path.{_≡_, refl, sym, ap, _∙_}
+use mathlib.Core.List.{List, []}
+use native.Mathlib.Omega.{arith}
+use borrow.Author.Needs.{needs}
+use borrow.Fn.Kinds.{In, Out}
+use borrow.Fn.PlainCycle.{Measures, is, falls, and}
+use lib.ListN.{length, take, drop}
+use Rattle.lvs_spec.specs.Limits.{maxNameBytes}
+use Rattle.lvs_spec.specs.Model.{modelOf}
+use Rattle.lvs_names.specs.Contents.{RowStep}
+use Rattle.lvs_edges.specs.Nodes.{BodyPart}
+use Rattle.lvs_edges.proofs.Places.{body-of-part}
+use Rattle.lvs_walk.specs.Search.{nameFor, rowFor, Within, Started}
+use Rattle.lvs_walk.specs.declared.Goal.{Goal}
+use Rattle.lvs_walk.proofs.Rows.{Component, name-short, has-component, no-component, component}
+use Rattle.lvs_walk.proofs.Hits.{end-match, end-packet, end-key, end-key-not}
+use Rattle.lvs_walk.proofs.Turns.{Turn, searchAt, begun, ahead, turn-first, turn-none, edge-at, turn-shut, turn-back, turn-found}
+use Rattle.lvs_walk.proofs.walk.Reads as walk
+use Rattle.lvs_walk.proofs.walk.Kinds as walk-kinds
+use Rattle.lvs_walk.proofs.+walk.Lts-walk as walk-lts
+use Rattle.lvs_bindings.proofs.unbind_tag.Reads as unbind-tag-reads
+use Rattle.lvs_edges.proofs.cross.Reads as cross-reads
+use Rattle.lvs_edges.proofs.edge_from.Reads as edge-from-reads
+use Rattle.lvs_edges.proofs.nodes.lists_node.Reads as lists-node-reads
+use Rattle.lvs_edges.proofs.nodes.node_part.Reads as node-part-reads
+use Rattle.lvs_names.proofs.component_at.Reads as component-at-reads
+use Rattle.lvs_walk.proofs.name_for.Reads as name-for-reads
+use Rattle.lvs_walk.proofs.text_place.Reads as text-place-reads
+use Rattle.lvs_walk.proofs.+walk.{statement}
+use Rattle.lvs_walk.proofs.+walk.Tie.{close}
+
+abbrev measure : List ℕ → List ℕ → Goal → ℕ → ℕ
+measure packet key goal at = length (nameFor packet key goal) - at + ahead key goal
+
+abbrev μ-walk : Measures 4 walk-kinds.ps ℕ
+μ-walk κs a = measure (a .1 .1 .0 .now) (a .1 .1 .1 .0 .now) (a .1 .1 .1 .1 .0) (a .1 .1 .1 .1 .1 .1 .0)
+
+abbrev walk-at : ℕ → In 4 walk-kinds.ps
+walk-at t = and 4 walk-kinds.ps (is 4 walk-kinds.ps μ-walk t) walk.Pre
+
+abbrev walk-below : ℕ → In 4 walk-kinds.ps
+walk-below t = and 4 walk-kinds.ps (falls 4 walk-kinds.ps _<_ μ-walk t) walk.Pre
+
+-- what is known of the calls, with the measure below t at a call of `walk`
+abbrev calls : ℕ → walk-lts.Claims
+calls t = (
+  name-for-reads.Asked,
+  name-for-reads.Learnt,
+  component-at-reads.Asked,
+  component-at-reads.Learnt,
+  walk-below t,
+  walk.Post,
+  lists-node-reads.Asked,
+  lists-node-reads.Learnt,
+  text-place-reads.Asked,
+  text-place-reads.Learnt,
+  node-part-reads.Asked,
+  node-part-reads.Learnt,
+  edge-from-reads.Asked,
+  edge-from-reads.Learnt,
+  cross-reads.Asked,
+  cross-reads.Learnt,
+  unbind-tag-reads.Asked,
+  unbind-tag-reads.Learnt,
+)
+
+abbrev Inv : walk-lts.InvT-loop
+Inv model places packet key goal node at slots₀ end c text a b edges from₀ slots from =
+    Turn (searchAt model packet key goal node end text c slots₀ edges) slots from
+
+abbrev μ : walk-lts.MeasureT-loop
+μ model places packet key goal node at slots₀ end c text a b edges from₀ slots from = length edges - from
+
+-- a need, or a place of the code, with all this
+abbrev at : (walk-lts.Claims → In 4 walk-kinds.ps → Out 4 walk-kinds.ps walk-kinds.r → walk-lts.InvT-loop → walk-lts.MeasureT-loop → Type 0) → ℕ → Type 0
+at N t = N (calls t) (walk-at t) walk.Post Inv μ
+
+-- ---- names for places of the code, and what is known there
+
+abbrev start : (t : ℕ) → at walk-lts.After-component-at t → at walk-lts.Start t
+start t c = c .before .before .before .before .before
+
+within : (t : ℕ) (c : at walk-lts.Start t) → Within (c .args .model .now) (c .args .places .now) (c .args .packet .now) (c .args .key .now) (c .args .slots .now)
+within t c = c .pre .1 .0
+
+-- no component is left
+ended : (t : ℕ) (c : at walk-lts.After-enum-told t)
+    → let s = start t (c .before .before) in rowFor (s .args .packet .now) (s .args .key .now) (s .args .goal) (s .args .at) ≡ []
+ended t c =
+    let read = c .before .before in
+    let s = start t read in
+    no-component (s .args .packet .now) (s .args .key .now) (s .args .goal) (s .args .at) (read .before .name-for .ensures) (read .component-at .ensures)
+    (c .enum-told .given .1)
+
+-- there is one
+step : (t : ℕ) (c : at walk-lts.After-end t)
+    → let s = start t (c .before .before) in RowStep (nameFor (s .args .packet .now) (s .args .key .now) (s .args .goal)) (s .args .at) (c .end .given .0 .0)
+step t c =
+    let read = c .before .before in
+    let s = start t read in
+    has-component (s .args .packet .now) (s .args .key .now) (s .args .goal) (s .args .at) (read .before .name-for .ensures) (read .component-at .ensures)
+    (c .end .given .1)
+
+-- where the component is in the two names' text, and the rest of the row
+here : (t : ℕ) (c : at walk-lts.After-text-place t)
+    → let found = c .before .before .before in
+    let s = start t (found .before .before) in
+    let stop = found .end .given .0 .0 in
+    Component (s .args .packet .now) (s .args .key .now) (s .args .goal) (s .args .at) stop (c .text-place .result)
+    (take (stop - s .args .at) (drop (s .args .at) (found .before .before .before .name-for .result .now)))
+here t c =
+    let found = c .before .before .before in
+    let s = start t (found .before .before) in
+    component (s .args .packet .now) (s .args .key .now) (s .args .goal) (s .args .at) (within t s .packet-short) (within t s .key-short)
+    (found .before .before .before .name-for .ensures) refl (c .text-place .ensures) (step t found)
+
+-- the part of the model that has the Node's edges
+body : (t : ℕ) (c : at walk-lts.After-node-part t)
+    → let s = start t (c .before .before .before .before .before .before) in BodyPart (s .args .model .now) (s .args .node) (c .node-part .result)
+body t c =
+    let s = start t (c .before .before .before .before .before .before) in
+    body-of-part (within t s .nodes) (c .node-part .ensures)
+
+-- from the loop: the Node's part, the component's place, and the start
+abbrev node : (t : ℕ) → at walk-lts.At-loop t → at walk-lts.After-node-part t
+node t l = l .before .before
+
+abbrev began : (t : ℕ) → at walk-lts.At-loop t → at walk-lts.Start t
+began t l = start t (node t l .before .before .before .before .before .before)
+
+-- from a crossing: the edge that was read, and the loop's turn
+abbrev edge : (t : ℕ) → at walk-lts.After-cross t → at walk-lts.After-pattern t
+edge t c = c .before .before .before .before
+
+abbrev turn : (t : ℕ) → at walk-lts.After-cross t → at walk-lts.At-loop t
+turn t c = edge t c .before .before .before
+
+-- ---- no component is left
+
+walk-requires : (t : ℕ) → at walk-lts.Need-walk-requires t
+unfolding nameFor
+walk-requires t c κs =
+    let s = start t (c .before .before .before .before .before .before) in
+    let g = ap (ahead (s .args .key .now)) (c .before .before .goal .given .1) in
+    (omega (arith, s .pre .0, g), (within t s, tt))
+
+lists-node-requires : (t : ℕ) → at walk-lts.Need-lists-node-requires t
+lists-node-requires t c κs = within t (start t (c .before .before .before .before .before)) .nodes
+
+returns : (t : ℕ) → at walk-lts.Need-returns t
+returns t c =
+    let e = c .before .before in
+    let s = start t (e .before .before) in
+    end-match (modelOf (s .args .model .now)) (s .args .packet .now) (s .args .key .now) (s .args .goal) (s .args .node) (s .args .at) (s .args .slots .now)
+    (within t s .room) (ended t e) (c .enum-told2 .given .1)
+
+returns-2 : (t : ℕ) → at walk-lts.Need-returns-2 t
+returns-2 t c =
+    let e = c .before .before .before .before .before in
+    let s = start t (e .before .before) in
+    let g = c .before .before .before .goal .given .1 in
+    end-packet (modelOf (s .args .model .now)) (s .args .packet .now) (s .args .key .now) (s .args .goal) (s .args .node) (s .args .at) (s .args .slots .now)
+    (within t s .room) (ended t e) g (s .pre .1 .1) (c .walk .ensures)
+
+returns-3 : (t : ℕ) → at walk-lts.Need-returns-3 t
+returns-3 t c =
+    let e = c .before .before .before .before .before in
+    let s = start t (e .before .before) in
+    end-key (modelOf (s .args .model .now)) (s .args .packet .now) (s .args .key .now) (s .args .goal) (s .args .node) (s .args .at) (s .args .slots .now)
+    (within t s .room) (ended t e) (c .before .before .before .goal2 .given .1) (sym (c .before .lists-node .ensures) ∙ c .if1 .taken)
+
+returns-4 : (t : ℕ) → at walk-lts.Need-returns-4 t
+returns-4 t c =
+    let e = c .before .before .before .before .before in
+    let s = start t (e .before .before) in
+    end-key-not (modelOf (s .args .model .now)) (s .args .packet .now) (s .args .key .now) (s .args .goal) (s .args .node) (s .args .at) (s .args .slots .now)
+    (within t s .room) (ended t e) (c .before .before .before .goal2 .given .1) (sym (c .before .lists-node .ensures) ∙ c .if1 .left)
+
+-- ---- the component and the Node
+
+sub-c : (t : ℕ) → at walk-lts.Need-sub-c t
+sub-c t c = let f = step t (c .before) in omega (arith, f .after)
+
+part-c-start : (t : ℕ) → at walk-lts.Need-part-c-start t
+part-c-start t c = let f = step t (c .before) in omega (arith, f .after)
+
+part-c-end : (t : ℕ) → at walk-lts.Need-part-c-end t
+part-c-end t c = rw (c .before .before .before .before .name-for .ensures) (step t (c .before) .within)
+
+text-place-requires : (t : ℕ) → at walk-lts.Need-text-place-requires t
+text-place-requires t c κs =
+    let s = start t (c .before .before .before .before) in
+    let f = step t (c .before .before) in
+    let n = name-short (s .args .packet .now) (s .args .key .now) (s .args .goal) maxNameBytes (within t s .packet-short) (within t s .key-short) in
+    (within t s .packet-short, omega (arith, f .after, f .within))
+
+sub-edges : (t : ℕ) → at walk-lts.Need-sub-edges t
+sub-edges t c = body t c .order
+
+part-edges-start : (t : ℕ) → at walk-lts.Need-part-edges-start t
+part-edges-start t c = body t c .order
+
+part-edges-end : (t : ℕ) → at walk-lts.Need-part-edges-end t
+part-edges-end t c = body t c .within
+
+-- ---- the loop over its edges
+
+loop-holds : (t : ℕ) → at walk-lts.Need-loop-holds t
+loop-holds t c = turn-first _ (within t (start t (c .before .before .before .before .before .before .before)) .room) (body t (c .before) .edges-are)
+
+returns-5 : (t : ℕ) → at walk-lts.Need-returns-5 t
+returns-5 t c =
+    let l = c .before .before .before in
+    let s = began t l in
+    begun (s .args .model .now) (s .args .node) (s .args .slots .now) (here t (node t l .before))
+    (turn-none (l .loop .inv) (c .before .before .edge-from .ensures) (c .enum-told3 .given .1))
+
+sub-cross : (t : ℕ) → at walk-lts.Need-sub-cross t
+sub-cross t c = edge-at (c .before .before .before .before .loop .inv) (c .before .before .before .edge-from .ensures) (c .before .pattern .given .1) .order
+
+part-cross-start : (t : ℕ) → at walk-lts.Need-part-cross-start t
+part-cross-start t c = edge-at (c .before .before .before .before .loop .inv) (c .before .before .before .edge-from .ensures) (c .before .pattern .given .1) .order
+
+part-cross-end : (t : ℕ) → at walk-lts.Need-part-cross-end t
+part-cross-end t c = edge-at (c .before .before .before .before .loop .inv) (c .before .before .before .edge-from .ensures) (c .before .pattern .given .1) .within
+
+cross-requires : (t : ℕ) → at walk-lts.Need-cross-requires t
+cross-requires t c κs =
+    let l = c .before .before .before .before .before .before in
+    (l .loop .inv .room, here t (node t l .before) .stands)
+
+-- the edge is shut
+loop-less : (t : ℕ) → at walk-lts.Need-loop-less t
+loop-less t c =
+    let x = c .before .before in
+    let e = edge-at (turn t x .loop .inv) (edge t x .before .before .edge-from .ensures) (edge t x .pattern .given .1) in
+    omega (arith, e .moved, e .after)
+
+loop-again : (t : ℕ) → at walk-lts.Need-loop-again t
+loop-again t c =
+    let x = c .before .before in
+    turn-shut (turn t x .loop .inv) (edge t x .before .before .edge-from .ensures) (edge t x .pattern .given .1) (x .cross .ensures) (c .enum-told4 .given .1)
+
+-- it leads on
+walk-requires-2 : (t : ℕ) → at walk-lts.Need-walk-requires-2 t
+walk-requires-2 t c κs =
+    let x = c .before .before .before .before in
+    let l = turn t x in
+    let s = began t l in
+    let w = within t s in
+    let f = here t (node t l .before) in
+    (omega (arith, s .pre .0, f .after, f .within), (
+      record { nodes = w .nodes; packet-short = w .packet-short; key-short = w .key-short; room = x .cross .ensures .room },
+      s .pre .1 .1,
+    ))
+
+returns-6 : (t : ℕ) → at walk-lts.Need-returns-6 t
+returns-6 t c =
+    let x = c .before .before .before .before .before .before .before in
+    let l = turn t x in
+    let s = began t l in
+    begun (s .args .model .now) (s .args .node) (s .args .slots .now) (here t (node t l .before))
+    (turn-found (l .loop .inv) (edge t x .before .before .edge-from .ensures) (edge t x .pattern .given .1) (x .cross .ensures)
+    (c .before .before .before .before .before .dest .given .1) (c .before .before .walk2 .ensures) (c .enum-told5 .given .1))
+
+unbind-tag-requires : (t : ℕ) → at walk-lts.Need-unbind-tag-requires t
+unbind-tag-requires t c κs =
+    let x = c .before .before .before .before .before .before .before .before in
+    rw (c .before .before .before .before .before .before .dest .given .1) at (x .cross .ensures .low)
+
+loop-less-2 : (t : ℕ) → at walk-lts.Need-loop-less-2 t
+loop-less-2 t c =
+    let x = c .before .before .before .before .before .before .before .before .before in
+    let e = edge-at (turn t x .loop .inv) (edge t x .before .before .edge-from .ensures) (edge t x .pattern .given .1) in
+    omega (arith, e .moved, e .after)
+
+loop-again-2 : (t : ℕ) → at walk-lts.Need-loop-again-2 t
+loop-again-2 t c =
+    let x = c .before .before .before .before .before .before .before .before .before in
+    turn-back (turn t x .loop .inv) (edge t x .before .before .edge-from .ensures) (edge t x .pattern .given .1) (x .cross .ensures)
+    (c .before .before .before .before .before .before .before .dest .given .1) (c .before .before .before .before .walk2 .ensures)
+    (c .before .before .enum-told6 .given .1) (c .unbind-tag .ensures)
+
+pub +walk-spec : {M : Type 1} → statement M
++walk-spec =
+    close μ-walk λ t.
+    walk-lts.spec (calls t) (walk-at t) walk.Post Inv μ
+    (λ c κs. search needs)
+    (λ c κs. search needs)
+    (λ c. search needs)
+    (λ c. search needs)
+    (λ c. search needs)
+    (λ c. search needs)
+    (walk-requires t)
+    (λ c. search needs)
+    (lists-node-requires t)
+    (returns t)
+    (returns-2 t)
+    (returns-3 t)
+    (returns-4 t)
+    (sub-c t)
+    (part-c-start t)
+    (part-c-end t)
+    (text-place-requires t)
+    (λ c κs. search needs)
+    (sub-edges t)
+    (part-edges-start t)
+    (part-edges-end t)
+    (loop-holds t)
+    (λ c κs. search needs)
+    (λ c. search needs)
+    (returns-5 t)
+    (λ c. search needs)
+    (sub-cross t)
+    (part-cross-start t)
+    (part-cross-end t)
+    (cross-requires t)
+    (λ c. search needs)
+    (loop-less t)
+    (loop-again t)
+    (λ c. search needs)
+    (walk-requires-2 t)
+    (λ c. search needs)
+    (returns-6 t)
+    (λ c. search needs)
+    (unbind-tag-requires t)
+    (loop-less-2 t)
+    (loop-again-2 t)

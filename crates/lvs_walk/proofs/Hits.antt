@@ -1,0 +1,90 @@
+-- The trace of a walk for a goal: where no component is left, and one edge at a time. Assumes nothing.
+use Prim.Native.Nat.{ℕ}
+use mathlib.Core.Path.{_≡_, refl, sym, ap, subst, _∙_}
+use mathlib.Core.Bool.{true, false}
+use mathlib.Core.List.{List, [], _∷_, _++_, append-nil}
+use mathlib.Core.Option.{Option, none, some}
+use Rattle.tlv.specs.Lists.{each, onward, first}
+use Rattle.lvs_spec.specs.Model.{Model, Edge, edges, nodeAt}
+use Rattle.lvs_spec.specs.Walk.{Binding, Match, Event, looked, found, continue, foundIn, answers, begin, cross, trace, keyTrace, keyRow, lists}
+use Rattle.lvs_spec.proofs.Lists.{orElse, first-append, each-append, each-each}
+use Rattle.lvs_spec.proofs.Trace.{each-same}
+use Rattle.lvs_names.specs.Rows.{rowFrom}
+use Rattle.lvs_bindings.specs.Slots.{Room, bindingsOf}
+use Rattle.lvs_walk.specs.Search.{Hit, listed, worth, hits, firstFound, nameFor, rowFor, Started, hitOf, First}
+use Rattle.lvs_walk.specs.declared.Goal.{Goal}
+use Rattle.lvs_walk.specs.declared.Goal.the-variants.{Match as AnyMatch, Packet, Key}
+use Rattle.lvs_walk.specs.declared.Found.{Found}
+use Rattle.lvs_walk.specs.declared.Found.the-variants.{Nothing, At}
+
+-- ---- the first answer of a trace
+
+module _ {A : Type 0} where
+  pub found-append : (s t : List (Event A)) → firstFound (s ++ t) ≡ orElse (firstFound s) (firstFound t)
+  unfolding firstFound
+  found-append s t = ap first (each-append foundIn s t) ∙ first-append (answers s) (answers t)
+
+  -- an edge that was looked at is no answer
+  pub looked-on : (t : List (Event A)) → firstFound (looked ∷ t) ≡ firstFound t
+  unfolding firstFound
+  looked-on t = refl
+
+  pub found-nothing : firstFound {A = A} [] ≡ none
+  unfolding firstFound
+  found-nothing = refl
+
+-- ---- one edge at a time
+
+module _ (m : Model) (key : List ℕ) (goal : Goal) where
+  hits-end : (x : Match) → hits m key goal [] x ≡ worth m key goal x
+  unfolding hits trace
+  hits-end x = append-nil (worth m key goal x)
+
+  -- an edge looked at and, where it is crossed, the walk from there on
+  unfoldable pub tried : Binding → List Binding → Match → Edge → List (Event Hit)
+  tried c cs x e = looked ∷ onward (hits m key goal cs) (cross m c x e)
+
+  continued : (c : Binding) (cs : List Binding) (x : Match) (e : Edge)
+      → each (continue (worth m key goal)) (looked ∷ onward (trace m cs) (cross m c x e)) ≡ tried c cs x e
+  unfolding tried hits
+  continued c cs x e = go (cross m c x e)
+    where
+      go : (q : Option Match) → each (continue (worth m key goal)) (looked ∷ onward (trace m cs) q) ≡ looked ∷ onward (hits m key goal cs) q
+      go none = refl
+      go (some y) = refl
+
+  pub hits-step : (c : Binding) (cs : List Binding) (x : Match) → hits m key goal (c ∷ cs) x ≡ each (tried c cs x) (edges (nodeAt m (x .node)))
+  unfolding hits trace
+  hits-step c cs x =
+      each-each (continue (worth m key goal)) _ (edges (nodeAt m (x .node))) ∙ each-same (continued c cs x) (edges (nodeAt m (x .node)))
+
+-- ---- where no component is left
+
+starts : (m : Model) {goal : Goal} {start from : ℕ} → goal ≡ Packet start from → Started m goal → start ≡ m .start
+starts m g s = subst (Started m) g s
+
+module _ (m : Model) (packet key : List ℕ) (goal : Goal) (v at : ℕ) (slots : List ℕ) (room : Room slots) (ended : rowFor packet key goal at ≡ []) where
+  abbrev here : Match
+  here = record { node = v; bindings = bindingsOf packet key slots }
+
+  worth-is : firstFound (hits m key goal (rowFor packet key goal at) here) ≡ firstFound (worth m key goal here)
+  worth-is = ap firstFound (rw ended (hits-end m key goal here))
+
+  pub end-match : goal ≡ AnyMatch → First packet key (hits m key goal (rowFor packet key goal at) here) slots (At v v) slots
+  unfolding worth firstFound
+  end-match g = record { answer = sym (worth-is ∙ rw g); kept = λ z. refl; room = room }
+
+  -- a packet match is worth the walk of the key from its bindings
+  pub end-packet : {start from : ℕ} → goal ≡ Packet start from → Started m goal → {q : Found} {after : List ℕ}
+      → First packet key (hits m key (Key v) (rowFor packet key (Key v) from) (record { node = start; bindings = bindingsOf packet key slots })) slots q after
+      → First packet key (hits m key goal (rowFor packet key goal at) here) slots q after
+  unfolding worth hits rowFor keyTrace begin
+  end-packet g s f = record { answer = f .answer ∙ sym (worth-is ∙ rw (g, starts m g s)); kept = f .kept; room = f .room }
+
+  pub end-key : {p : ℕ} → goal ≡ Key p → lists m p v ≡ true → First packet key (hits m key goal (rowFor packet key goal at) here) slots (At p v) slots
+  unfolding worth listed firstFound
+  end-key g l = record { answer = sym (worth-is ∙ rw (g, l)); kept = λ z. refl; room = room }
+
+  pub end-key-not : {p : ℕ} → goal ≡ Key p → lists m p v ≡ false → First packet key (hits m key goal (rowFor packet key goal at) here) slots Nothing slots
+  unfolding worth listed firstFound
+  end-key-not g l = record { answer = sym (worth-is ∙ rw (g, l)); kept = λ z. refl; room = room }

@@ -1,0 +1,27 @@
+-- `lvs_walk::find_pair` meets its contract. Assumes nothing.
+use mathlib.Core.Path.{_≡_, refl}
+use borrow.Author.Needs.{needs}
+use Rattle.lvs_spec.specs.Model.{modelOf}
+use Rattle.lvs_walk.proofs.Answers.{clear-room, pair-first}
+use Rattle.lvs_walk.proofs.find_pair.Statement.{statement}
+use Rattle.lvs_walk.proofs.find_pair.Tie as tie
+
+walk-requires : tie.Need-walk-requires
+unfolding modelOf
+walk-requires c κs =
+    let s = c .before .before .before .before .before in
+    (record { nodes = s .pre .0; packet-short = s .pre .1 .0; key-short = s .pre .1 .1; room = clear-room refl }, c .before .number-in .ensures)
+
+returns : tie.Need-returns
+unfolding modelOf
+returns c =
+    let s = c .before .before .before .before .before .before in
+    pair-first (modelOf (s .args .model .now)) (s .args .packet .now) (s .args .key .now) (s .args .packet-from) (s .args .key-from) _
+    (c .before .before .number-in .ensures) refl (c .walk .ensures)
+
+pub find-pair-spec : {M : Type 1} → statement M
+find-pair-spec = tie.close
+    (tie.spec
+    (λ c κs. search needs)
+    walk-requires
+    returns)
