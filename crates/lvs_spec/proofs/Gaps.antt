@@ -3,12 +3,12 @@
 use Prim.Native.Nat.{ℕ, zero, suc, _≤_, _<_, _^_}
 use mathlib.Core.Path.{_≡_, refl, sym, ap, _∙_, subst}
 use mathlib.Core.Bool.{Bool, true, false, false≢true}
-use mathlib.Core.List.{List, [], _∷_, _++_, List·Memᴰ, List·Memᴰ·head, List·Memᴰ·tail}
+use mathlib.Core.List.{List, _∷_, _++_, List·Memᴰ, List·Memᴰ·head, List·Memᴰ·tail}
 use mathlib.Core.Option.{some, Option·some-injective}
 use native.Mathlib.Omega.{arith}
 use lib.ListN.{length}
 use Rattle.tlv.specs.Bytes.{Bytes}
-use Rattle.tlv.specs.Element.{Element, typeInRange, done, nexts, cuts, split, encode, Each}
+use Rattle.tlv.specs.Element.{Element, typeInRange, done, nexts, split, encode, Each}
 use Rattle.tlv.proofs.RoundTrip.{cuts-encoded, split-nexts, nexts-split}
 use Rattle.tlv.proofs.Sizes.{split-types, all-in-range}
 use Rattle.lvs_spec.specs.Limits.{maxModelBytes}
@@ -47,11 +47,13 @@ module _ (n : ℕ) (inner : (k : Kind) (b : List ℕ) → Good n k b → NoOptio
   left-known (of-leaf l q) o = clash (cc)
   left-known (of-container e j q g) o = clash (cc)
 
-  left-inner : {e x : Element} (j : Kind) → Left n e → meaning (e .type) ≡ known (container j) → Holds x (e .inside) → ¬ (meaning (x .type) ≡ optional)
+  left-inner : {e x : Element} (j : Kind) → Left n e → meaning (e .type) ≡ known (container j) → Holds x (e .inside)
+      → ¬ (meaning (x .type) ≡ optional)
   left-inner j (of-leaf l q) c h o = clash (cc)
   left-inner {x = x} j (of-container e i q g) c h o = inner i (e .inside) g x h o
 
-  left-holds : {b : List ℕ} {x : Element} → ((es : List Element) → split b ≡ some es → Each (Left n) es) → Holds x b → ¬ (meaning (x .type) ≡ optional)
+  left-holds : {b : List ℕ} {x : Element} → ((es : List Element) → split b ≡ some es → Each (Left n) es) → Holds x b
+      → ¬ (meaning (x .type) ≡ optional)
   left-holds rows (among {es = es} p i) = left-known (each-at (Left n) (rows es p) i)
   left-holds rows (within {es = es} e j p i c h) = left-inner j (each-at (Left n) (rows es p) i) c h
 
@@ -80,8 +82,8 @@ module _ (n : ℕ) (inner-same : (k : Kind) (b : List ℕ) → Good n k b → No
   clean-same (take {e = e} {es = es} (leaf l) q p i o) s c =
       rw (bare-leaf (bareBy n) e l q) (ap (λ (r : List Element). e ∷ r) (clean-same o (s .1) (λ d m. c d (List·Memᴰ·tail m))))
   clean-same (take {e = e} {es = es} (container j) q p i o) s c =
-      let kept : bareBy n (e .inside) ≡ e .inside
-          = inner-same j (e .inside) (record { bytes = s .0 .0; fits = s .0 .1; formed = i }) (c e (List·Memᴰ·head refl) .inner j q) in
+      let g : Good n j (e .inside) = record { bytes = s .0 .0; fits = s .0 .1; formed = i } in
+      let kept : bareBy n (e .inside) ≡ e .inside = inner-same j (e .inside) g (c e (List·Memᴰ·head refl) .inner j q) in
       rw (bare-container (bareBy n) e j q, kept) (ap (λ (r : List Element). e ∷ r) (clean-same o (s .1) (λ d m. c d (List·Memᴰ·tail m))))
 
 same-bare : (n : ℕ) (k : Kind) (b : List ℕ) → Good n k b → NoOptional b → bareBy n b ≡ b
@@ -90,14 +92,17 @@ same-bare zero k b g free = absurd (false≢true (g .formed))
 same-bare (suc n) k b g free =
     let d = held g in
     let s : split b ≡ some (d .elements) = split-nexts b _ (d .cut-is) in
-    let c : (e : Element) → List·Memᴰ e (d .elements) → Clean e
-        = λ e m. record { itself = free e (among s m); inner = λ j q x h. free x (within e j s m q h) } in
-    bare-is n b (d .elements) (d .cut-is) ∙ ap encode (clean-same n (same-bare n) (d .ordered) (d .smalls) c) ∙ d .encode-is
+    bare-is n b (d .elements) (d .cut-is) ∙
+    ap encode
+    (clean-same n (same-bare n) (d .ordered) (d .smalls) λ e m.
+    record { itself = free e (among s m); inner = λ j q x h. free x (within e j s m q h) }) ∙
+    d .encode-is
 
 -- ---- bare twice
 
 module _ (n : ℕ) (inner-twice : (k : Kind) (b : List ℕ) → Good n k b → bareBy n (bareBy n b) ≡ bareBy n b) where
-  bares-twice : {k : Kind} {items : List Item} {es : List Element} → Ordered (wellFormedBy n) k items es → Each Small es → bares n (bares n es) ≡ bares n es
+  bares-twice : {k : Kind} {items : List Item} {es : List Element} → Ordered (wellFormedBy n) k items es → Each Small es
+      → bares n (bares n es) ≡ bares n es
   unfolding insideOk
   bares-twice (stop t) s = refl
   bares-twice (skip {e = e} q o) s = rw (bare-optional (bareBy n) e q) (bares-twice o (s .1))
@@ -119,7 +124,8 @@ twice (suc n) k b g =
 -- ---- an optional element put in any gap goes again
 
 module _ (x : Element) (x-optional : meaning (x .type) ≡ optional) (x-typed : typeInRange (x .type) ≡ true) where
-  goes-again : (n : ℕ) (k : Kind) {b b′ : List ℕ} → Inserted x b b′ → length b′ < 2 ^ 64 → wellFormedBy n k b ≡ true → bareBy n b′ ≡ bareBy n b
+  goes-again : (n : ℕ) (k : Kind) {b b′ : List ℕ} → Inserted x b b′ → length b′ < 2 ^ 64 → wellFormedBy n k b ≡ true
+      → bareBy n b′ ≡ bareBy n b
   unfolding wellFormedBy
   goes-again zero k i l g = absurd (false≢true g)
   goes-again (suc n) k (here {b} before after s) l g =
@@ -142,7 +148,8 @@ module _ (x : Element) (x-optional : meaning (x .type) ≡ optional) (x-typed : 
           absurd (false≢true (sym bad ∙ rw (nexts-split b _ s, nexts-append before (e ∷ after) done) at g))
       go true f rec =
           let es : List Element = before ++ e′ ∷ after in
-          let cut = cuts-encoded es (all-in-range es (each-replace TypeOk before after e e′ (known-in-range (e .type) (container j) q) (split-types b _ s)) l) in
+          let types = each-replace TypeOk before after e e′ (known-in-range (e .type) (container j) q) (split-types b _ s) in
+          let cut = cuts-encoded es (all-in-range es types l) in
           let shorter = inside-shorter before after e′ in
           bare-is n (encode es) es cut ∙
           ap encode
@@ -169,7 +176,7 @@ module _ (b : List ℕ) (m : Model) (bytes : Bytes b) (r : reading b ≡ describ
   bare-bare = twice 7 model b (good b bytes (passed b m r))
 
 -- an optional element more, in any gap at any depth, leaves the bare model as it is
-pub inserted-bare : (b b′ : List ℕ) (m : Model) (x : Element) → reading b ≡ describes m → meaning (x .type) ≡ optional → typeInRange (x .type) ≡ true
-    → Inserted x b b′ → length b′ ≤ maxModelBytes → bare b′ ≡ bare b
+pub inserted-bare : (b b′ : List ℕ) (m : Model) (x : Element) → reading b ≡ describes m
+    → meaning (x .type) ≡ optional → typeInRange (x .type) ≡ true → Inserted x b b′ → length b′ ≤ maxModelBytes → bare b′ ≡ bare b
 unfolding bare wellFormed
 inserted-bare b b′ m x r o t i l = goes-again x o t 7 model i (omega arith) (passed b m r .formed)
