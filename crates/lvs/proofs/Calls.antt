@@ -16,11 +16,13 @@ use Rattle.lvs_spec.specs.Model.{Model, nodeOf, modelOf}
 use Rattle.tlv.specs.Fields.{insides}
 use Rattle.lvs_spec.specs.Verdict.{Verdict, unreadable, describes, reading, judge, verdict}
 use Rattle.lvs_spec.specs.Names.{Component, badName, goodName, nameReading, packetName, keyName}
-use Rattle.lvs_spec.specs.Walk.{Bindings, packetMatches, pairs}
-use Rattle.lvs_spec.specs.Answers.{MatchAnswer, SignAnswer, plain, words, boundCount, matchFound, matchRoom, matchName, matchIn, matchOutcome, pairFound, signNames, signIn, signAnswer}
+use Rattle.lvs_spec.specs.Walk.{Match, packetMatches, pairs}
+use Rattle.lvs_spec.specs.Answers.{MatchAnswer, SignAnswer, plain, words, boundCount, matchRefused, matchFound, matchWalked, matchRoom, matchName, matchIn, matchOutcome, pairFound, pairWalked, signNames, signIn, signAnswer}
 use Rattle.lvs_spec.proofs.Rules.{judge-few}
 use Rattle.lvs_spec.proofs.Usable.{accepted-usable, refused-unusable}
-use Rattle.lvs_walk.specs.Calls.{Small}
+use Rattle.lvs_spec.proofs.Lists.{clash}
+use Rattle.lvs_edges.specs.Nodes.{Walkable}
+use Rattle.lvs_edges.proofs.Ordered.{well-ordered}
 
 -- ---- the verdict
 
@@ -32,38 +34,33 @@ pub verdict-judged : (b : List ℕ) {m : Model} {v : Verdict} → reading b ≡ 
 unfolding verdict
 verdict-judged b e f = f ∙ sym (rw (e, verdict))
 
-accepted-short : (b : List ℕ) {n : ℕ} → verdict b ≡ Verdict.accepted n → length b ≤ maxModelBytes
-unfolding verdict reading tooLong
-accepted-short b {n} h = go (tooLong b) refl
-  where
-    go : (t : Bool) → tooLong b ≡ t → length b ≤ maxModelBytes
-    go true p =
-        let e : reading b ≡ unreadable 1 = rw (p, reading) in
-        let h′ : Verdict.refused 1 0 ≡ Verdict.accepted n = sym (verdict-unreadable b e) ∙ h in
-        let z : _≡_ {A = ℕ} 0 1 = cc in absurd (omega arith)
-    go false p = ltb-false maxModelBytes (length b) p
+-- what an accepted verdict says of the bytes
+record Accepted (b : List ℕ) (n : ℕ) : Type 0 where
+  short : tooLong b ≡ false
+  well-formed : wellFormed b ≡ true
+  judged : judge (modelOf b) ≡ Verdict.accepted n
 
-read-judged : (b : List ℕ) {n : ℕ} → verdict b ≡ Verdict.accepted n → judge (modelOf b) ≡ Verdict.accepted n
+accepted-is : (b : List ℕ) {n : ℕ} → verdict b ≡ Verdict.accepted n → Accepted b n
 unfolding verdict reading
-read-judged b {n} h = go (tooLong b) (otherVersion b) (wellFormed b) refl refl refl
+accepted-is b {n} h = go (tooLong b) (otherVersion b) (wellFormed b) refl refl refl
   where
-    not-read : (r : ℕ) → reading b ≡ unreadable r → judge (modelOf b) ≡ Verdict.accepted n
-    not-read r e =
-        let h′ : Verdict.refused r 0 ≡ Verdict.accepted n = sym (verdict-unreadable b e) ∙ h in
-        let z : _≡_ {A = ℕ} 0 1 = cc in absurd (omega arith)
+    not-read : (r : ℕ) → reading b ≡ unreadable r → Accepted b n
+    not-read r e = let h′ : Verdict.refused r 0 ≡ Verdict.accepted n = sym (verdict-unreadable b e) ∙ h in clash (cc)
 
-    go : (x y z : Bool) → tooLong b ≡ x → otherVersion b ≡ y → wellFormed b ≡ z → judge (modelOf b) ≡ Verdict.accepted n
+    go : (x y z : Bool) → tooLong b ≡ x → otherVersion b ≡ y → wellFormed b ≡ z → Accepted b n
     go true y z p q r = not-read 1 (rw (p, reading))
     go false true z p q r = not-read 3 (rw (p, q, reading))
     go false false false p q r = not-read 2 (rw (p, q, r, reading))
-    go false false true p q r = verdict-judged b (rw (p, q, r, reading)) refl ∙ h
+    go false false true p q r = record { short = p; well-formed = r; judged = verdict-judged b (rw (p, q, r, reading)) refl ∙ h }
 
-pub small : (b : List ℕ) {n : ℕ} → verdict b ≡ Verdict.accepted n → Small b
-unfolding modelOf
-small b h =
+pub walkable : (b : List ℕ) {n : ℕ} → verdict b ≡ Verdict.accepted n → Walkable b
+unfolding modelOf tooLong
+walkable b h =
+    let a = accepted-is b h in
     record {
-      short = accepted-short b h;
-      few = omega (arith, judge-few (modelOf b) (read-judged b h), length-map (insides type.Node b) nodeOf);
+      short = ltb-false maxModelBytes (length b) (a .short);
+      few = omega (arith, judge-few (modelOf b) (a .judged), length-map (insides type.Node b) nodeOf);
+      ordered = well-ordered b (a .well-formed);
     }
 
 -- ---- names
@@ -73,18 +70,18 @@ unfolding nameReading
 name-short base b {cs} h = go (ltb maxNameBytes (length b)) refl
   where
     go : (t : Bool) → ltb maxNameBytes (length b) ≡ t → length b ≤ maxNameBytes
-    go true p = let h′ : goodName cs ≡ badName base = rw p at h in let z : _≡_ {A = ℕ} 0 1 = cc in absurd (omega arith)
+    go true p = let h′ : goodName cs ≡ badName base = rw p at h in clash (cc)
     go false p = ltb-false maxNameBytes (length b) p
 
 -- ---- the match call
 
 module _ (b name buffer : List ℕ) where
-  pub match-refused : {r i : ℕ} → verdict b ≡ Verdict.refused r i → matchOutcome b name buffer ≡ (MatchAnswer.refused (record { number = r; node = i }), buffer)
+  pub match-refused : {r i : ℕ} → verdict b ≡ Verdict.refused r i → matchOutcome b name buffer ≡ matchRefused (record { number = r; node = i }) buffer
   unfolding matchOutcome matchIn
   match-refused {r} {i} h = rw (refused-unusable b r i h)
 
   module _ {n : ℕ} (accepted : verdict b ≡ Verdict.accepted n) where
-    pub match-bad-name : {r : ℕ} → badName r ≡ nameReading 21 name → matchOutcome b name buffer ≡ (MatchAnswer.refused (plain r), buffer)
+    pub match-bad-name : {r : ℕ} → badName r ≡ nameReading 21 name → matchOutcome b name buffer ≡ matchRefused (plain r) buffer
     unfolding matchOutcome matchIn matchName packetName
     match-bad-name h = rw (accepted-usable b n accepted, ← h)
 
@@ -93,19 +90,24 @@ module _ (b name buffer : List ℕ) where
       unfolding matchOutcome matchIn matchName packetName
       goes-on = rw (accepted-usable b n accepted, ← good)
 
-      pub match-no-room : length buffer < bindingWords → matchOutcome b name buffer ≡ (MatchAnswer.refused (plain 27), buffer)
+      pub match-no-room : length buffer < bindingWords → matchOutcome b name buffer ≡ matchRefused (plain 27) buffer
       unfolding matchRoom
       match-no-room h = goes-on ∙ rw (lt-ltb (length buffer) bindingWords h)
 
       module _ (room : bindingWords ≤ length buffer) where
-        pub match-none : first (packetMatches (modelOf b) cs) ≡ none → matchOutcome b name buffer ≡ (MatchAnswer.noMatch, buffer)
-        unfolding matchRoom matchFound
-        match-none h = goes-on ∙ rw (le-ltb (length buffer) bindingWords room, h)
+        walked : matchOutcome b name buffer ≡ matchFound (first (packetMatches (modelOf b) cs)) buffer
+        unfolding matchRoom matchWalked packetMatches
+        walked = goes-on ∙ rw (le-ltb (length buffer) bindingWords room)
 
-        pub match-some : {v : ℕ} {s : Bindings} {k : ℕ} {after : List ℕ} → first (packetMatches (modelOf b) cs) ≡ some (v, s) → k ≡ boundCount s
-            → after ≡ words s ++ drop bindingWords buffer → (MatchAnswer.matched v k, after) ≡ matchOutcome b name buffer
-        unfolding matchRoom matchFound
-        match-some h c w = rw (c, w) (sym (goes-on ∙ rw (le-ltb (length buffer) bindingWords room, h)))
+        pub match-none : first (packetMatches (modelOf b) cs) ≡ none → matchOutcome b name buffer ≡ record { answer = MatchAnswer.noMatch; words = buffer }
+        unfolding matchFound
+        match-none h = walked ∙ rw h
+
+        pub match-some : {x : Match} {k : ℕ} {after : List ℕ} → first (packetMatches (modelOf b) cs) ≡ some x → k ≡ boundCount (x .bindings)
+            → after ≡ words (x .bindings) ++ drop bindingWords buffer
+            → record { answer = MatchAnswer.matched (x .node) k; words = after } ≡ matchOutcome b name buffer
+        unfolding matchFound
+        match-some h c w = rw (c, w) (sym (walked ∙ rw h))
 
 -- ---- the signing call
 
@@ -128,11 +130,6 @@ module _ (b packet key : List ℕ) where
       unfolding signNames
       sign-bad-key h = named ∙ rw (← good, ← h)
 
-      module _ {ks : List Component} (good-key : goodName ks ≡ nameReading 24 key) where
-        pub sign-none : first (pairs (modelOf b) ps ks) ≡ none → signAnswer b packet key ≡ SignAnswer.notAllowed
-        unfolding signNames pairFound
-        sign-none h = named ∙ rw (← good, ← good-key, h)
-
-        pub sign-some : {p k : ℕ} → first (pairs (modelOf b) ps ks) ≡ some (p, k) → signAnswer b packet key ≡ SignAnswer.allowed p k
-        unfolding signNames pairFound
-        sign-some h = named ∙ rw (← good, ← good-key, h)
+      pub sign-walked : {ks : List Component} → goodName ks ≡ nameReading 24 key → signAnswer b packet key ≡ pairFound (first (pairs (modelOf b) ps ks))
+      unfolding signNames pairWalked pairs
+      sign-walked h = named ∙ rw (← good, ← h)

@@ -3,6 +3,8 @@ ghost use mathlib.Core.Path.{_≡_};
 ghost use Rattle.lvs_spec.specs.Verdict.{verdict};
 ghost use Rattle.lvs_spec.specs.Answers.{matchOutcome, signAnswer};
 ghost use Rattle.lvs.specs.Readings.{verdictOf, matchAnswerOf, signAnswerOf};
+use lvs_bindings::SLOT_WORDS;
+use lvs_edges::nodes::PLACE_WORDS;
 use lvs_grammar::Reading;
 use lvs_names::NameRead;
 use lvs_rules::Judged;
@@ -50,7 +52,8 @@ pub fn judge_model(model: &[u8]) -> Verdict
 
 // Matches a packet name. On a match the first 256 words of the buffer are each Tag's start and length; else it is kept.
 pub fn match_name(model: &[u8], name: &[u8], buffer: &mut [u32]) -> MatchAnswer
-    ensures { λ r. ⌜ (matchAnswerOf r, now (buffer .exit)) ≡ matchOutcome (now (model .entry)) (now (name .entry)) (now (buffer .entry)) ⌝ }
+    ensures { λ r. ⌜ record { answer = matchAnswerOf r; words = now (buffer .exit) } ≡
+        matchOutcome (now (model .entry)) (now (name .entry)) (now (buffer .entry)) ⌝ }
 {
     if let Verdict::Refused { number, node } = judge_model(model) {
         return MatchAnswer::Refused { number, node };
@@ -64,12 +67,14 @@ pub fn match_name(model: &[u8], name: &[u8], buffer: &mut [u32]) -> MatchAnswer
                     node: 0,
                 };
             }
-            let mut slots = [0u32; lvs_spec::BINDING_WORDS];
-            match lvs_walk::find_match(model, name, from, &mut slots) {
+            let mut places = [0u32; PLACE_WORDS];
+            lvs_edges::nodes::node_places(model, &mut places);
+            let mut slots = [0u32; SLOT_WORDS];
+            match lvs_walk::find_match(model, &places, name, from, &mut slots) {
                 Found::Nothing => MatchAnswer::NoMatch,
                 Found::At(node, _) => MatchAnswer::Match {
                     node,
-                    bound: lvs_walk::words::write_words(name, &slots, buffer),
+                    bound: lvs_bindings::write_words(name, &slots, buffer),
                 },
             }
         }
@@ -87,10 +92,14 @@ pub fn sign<'a>(model: &[u8], packet: &'a [u8], key: &'a [u8]) -> SignAnswer
         NameRead::Refused(number) => SignAnswer::Refused { number, node: 0 },
         NameRead::Good(p) => match lvs_names::read_name(key, KEY_REFUSALS) {
             NameRead::Refused(number) => SignAnswer::Refused { number, node: 0 },
-            NameRead::Good(k) => match lvs_walk::find_pair(model, packet, p, key, k) {
-                Found::Nothing => SignAnswer::NotAllowed,
-                Found::At(packet, key) => SignAnswer::Allowed { packet, key },
-            },
+            NameRead::Good(k) => {
+                let mut places = [0u32; PLACE_WORDS];
+                lvs_edges::nodes::node_places(model, &mut places);
+                match lvs_walk::find_pair(model, &places, packet, p, key, k) {
+                    Found::Nothing => SignAnswer::NotAllowed,
+                    Found::At(packet, key) => SignAnswer::Allowed { packet, key },
+                }
+            }
         },
     }
 }

@@ -32,7 +32,13 @@ pub enum ArgumentRead {
 }
 
 // Whether a Tag is bound to an equal component.
-fn bound_same<'a>(packet: &'a [u8], key: &'a [u8], slots: &[u32; SLOT_WORDS], tag: u64, c: &[u8]) -> bool
+fn bound_same<'a>(
+    packet: &'a [u8],
+    key: &'a [u8],
+    slots: &[u32; SLOT_WORDS],
+    tag: u64,
+    c: &[u8],
+) -> bool
     requires { ⌜ Room (now slots) ⌝ }
     requires { ⌜ Alone (now c) ⌝ }
     ensures { λ r. ⌜ r ≡ boundTo (bindingsOf (now (packet .entry)) (now (key .entry)) (now (slots .entry))) tag (componentOf (now (c .entry))) ⌝ }
@@ -45,7 +51,13 @@ fn bound_same<'a>(packet: &'a [u8], key: &'a [u8], slots: &[u32; SLOT_WORDS], ta
 }
 
 // Whether a Tag is bound to a component of the same type.
-fn bound_same_type<'a>(packet: &'a [u8], key: &'a [u8], slots: &[u32; SLOT_WORDS], tag: u64, c: &[u8]) -> bool
+fn bound_same_type<'a>(
+    packet: &'a [u8],
+    key: &'a [u8],
+    slots: &[u32; SLOT_WORDS],
+    tag: u64,
+    c: &[u8],
+) -> bool
     requires { ⌜ Room (now slots) ⌝ }
     ensures { λ r. ⌜ r ≡ is (λ a. eqb (a .type) (componentOf (now (c .entry)) .type))
         (argumentIn (bindingsOf (now (packet .entry)) (now (key .entry)) (now (slots .entry))) (Rattle.lvs_spec.specs.Model.Argument.tag tag)) ⌝ }
@@ -89,7 +101,13 @@ fn argument_of(s: &[u8]) -> ArgumentRead
 }
 
 // Whether a call's first argument equals the component.
-fn argument_same<'a>(s: &[u8], packet: &'a [u8], key: &'a [u8], slots: &[u32; SLOT_WORDS], c: &[u8]) -> bool
+fn argument_same<'a>(
+    s: &[u8],
+    packet: &'a [u8],
+    key: &'a [u8],
+    slots: &[u32; SLOT_WORDS],
+    c: &[u8],
+) -> bool
     requires { ⌜ Room (now slots) ⌝ }
     requires { ⌜ Alone (now c) ⌝ }
     ensures { λ r. ⌜ r ≡ is (λ a. same a (componentOf (now (c .entry))))
@@ -120,7 +138,13 @@ fn argument_same_type<'a>(
 }
 
 // Whether a UserFnCall holds.
-fn call_holds<'a>(s: &[u8], packet: &'a [u8], key: &'a [u8], slots: &[u32; SLOT_WORDS], c: &[u8]) -> bool
+fn call_holds<'a>(
+    s: &[u8],
+    packet: &'a [u8],
+    key: &'a [u8],
+    slots: &[u32; SLOT_WORDS],
+    c: &[u8],
+) -> bool
     requires { ⌜ Room (now slots) ⌝ }
     requires { ⌜ Alone (now c) ⌝ }
     ensures { λ r. ⌜ r ≡ callHolds (bindingsOf (now (packet .entry)) (now (key .entry)) (now (slots .entry))) (componentOf (now (c .entry))) (callOf (now (s .entry))) ⌝ }
@@ -167,7 +191,13 @@ fn term_holds<'a>(
 }
 
 // Whether a ConstraintOption holds.
-fn option_holds<'a>(s: &[u8], packet: &'a [u8], key: &'a [u8], slots: &[u32; SLOT_WORDS], c: &[u8]) -> bool
+fn option_holds<'a>(
+    s: &[u8],
+    packet: &'a [u8],
+    key: &'a [u8],
+    slots: &[u32; SLOT_WORDS],
+    c: &[u8],
+) -> bool
     requires { ⌜ Room (now slots) ⌝ }
     requires { ⌜ Alone (now c) ⌝ }
     ensures { λ r. ⌜ r ≡ optionHolds (bindingsOf (now (packet .entry)) (now (key .entry)) (now (slots .entry))) (componentOf (now (c .entry))) (optionOf (now (s .entry))) ⌝ }
@@ -197,7 +227,13 @@ fn option_holds<'a>(s: &[u8], packet: &'a [u8], key: &'a [u8], slots: &[u32; SLO
 }
 
 // Whether a Constraint holds: one of its options does.
-fn constraint_holds<'a>(s: &[u8], packet: &'a [u8], key: &'a [u8], slots: &[u32; SLOT_WORDS], c: &[u8]) -> bool
+fn constraint_holds<'a>(
+    s: &[u8],
+    packet: &'a [u8],
+    key: &'a [u8],
+    slots: &[u32; SLOT_WORDS],
+    c: &[u8],
+) -> bool
     requires { ⌜ Room (now slots) ⌝ }
     requires { ⌜ Alone (now c) ⌝ }
     ensures { λ r. ⌜ r ≡ constraintHolds (bindingsOf (now (packet .entry)) (now (key .entry)) (now (slots .entry))) (componentOf (now (c .entry))) (constraintOf (now (s .entry))) ⌝ }
@@ -229,7 +265,13 @@ fn constraint_holds<'a>(s: &[u8], packet: &'a [u8], key: &'a [u8], slots: &[u32;
 }
 
 // Whether every Constraint in `s` holds.
-fn each_holds<'a>(s: &[u8], packet: &'a [u8], key: &'a [u8], slots: &[u32; SLOT_WORDS], c: &[u8]) -> bool
+fn each_holds<'a>(
+    s: &[u8],
+    packet: &'a [u8],
+    key: &'a [u8],
+    slots: &[u32; SLOT_WORDS],
+    c: &[u8],
+) -> bool
     requires { ⌜ Room (now slots) ⌝ }
     requires { ⌜ Alone (now c) ⌝ }
     ensures { λ r. ⌜ r ≡ all (constraintHolds (bindingsOf (now (packet .entry)) (now (key .entry)) (now (slots .entry))) (componentOf (now (c .entry))))

@@ -20,7 +20,7 @@ use Rattle.lvs_spec.specs.Model.{Node, noNode, nodeAt, nodeOf, modelOf, edges}
 use Rattle.lvs_spec.specs.Walk.{lists}
 use Rattle.lvs_edges.specs.Edges.{edgeFrom, fileEdges}
 use Rattle.lvs_edges.specs.Nodes.{nodeInside, Walkable, inBody, BodyFrom, BodyPart}
-use Rattle.lvs_edges.proofs.Edges.{from-other, no-edges}
+use Rattle.lvs_edges.proofs.Edges.{from-other}
 
 -- ---- what belongs to it
 

@@ -1,16 +1,15 @@
 -- The answers for an edge, one law for each return. Assumes nothing.
-use Prim.Native.Nat.{ℕ, zero, suc, _-_, _≤_, _<_}
+use Prim.Native.Nat.{ℕ, zero, suc, _-_}
 use mathlib.Core.Path.{_≡_, refl, sym, ap, _∙_}
 use mathlib.Core.Bool.{Bool, true, false, cond, _&&_}
-use mathlib.Core.List.{List, map}
-use mathlib.Core.Option.{Option, none, some}
+use mathlib.Core.List.{List}
+use mathlib.Core.Option.{none, some}
 use native.Mathlib.Omega.{arith}
 use lib.ListN.{length, take, drop}
-use Rattle.tlv.specs.Element.{Element}
 use Rattle.tlv.specs.Lists.{bind, guard, all}
 use Rattle.tlv.specs.Fields.{theInside, theInteger}
 use Rattle.lvs_spec.specs.Types as type
-use Rattle.lvs_spec.specs.Model.{PatternEdge, componentOf, constraintOf, valueEdgeOf, patternEdgeOf, destination}
+use Rattle.lvs_spec.specs.Model.{componentOf, valueEdgeOf, patternEdgeOf, destination}
 use Rattle.lvs_spec.specs.Names.{same}
 use Rattle.lvs_spec.specs.Walk.{Binding, Bindings, Match, bound, bindTag, boundTo, constraintHolds, crosses, behind}
 use Rattle.lvs_bindings.specs.Slots.{Room, SlotOf, textFrom, bindingAt, bindingsOf, boundWords, boundTag, without}

@@ -4,22 +4,22 @@ use Prim.Native.Nat.{ℕ, zero, suc}
 use mathlib.Core.Path.{_≡_, refl, sym, ap, _∙_, subst}
 use mathlib.Core.Logic.{_⊎_, inl, inr, ⊎-elim}
 use mathlib.Core.Bool.{Bool, true, false, _&&_, _||_, not}
-use mathlib.Core.List.{List, [], _∷_, _++_, map, append-nil}
-use mathlib.Core.Option.{Option, none, some}
+use mathlib.Core.List.{List, [], _∷_, _++_, map}
+use mathlib.Core.Option.{none, some}
 use native.Mathlib.Omega.{arith}
 use borrow.Author.Tests.{eqb-true, eqb-false}
 use lib.Dec.{eqb}
-use lib.ListN.{length, getD}
-use Rattle.tlv.specs.Element.{Element, Cuts, done, cuts, nexts}
-use Rattle.tlv.specs.Lists.{guard, any, each, when, member}
+use lib.ListN.{getD}
+use Rattle.tlv.specs.Element.{Element, done, cuts, nexts}
+use Rattle.tlv.specs.Lists.{any, each, member}
 use Rattle.tlv.specs.Fields.{eachCut, insideOf, insides}
 use Rattle.tlv.proofs.Gathered.{inside-taken, inside-passed}
 use Rattle.lvs_spec.specs.Types as type
-use Rattle.lvs_spec.specs.Grammar.{Kind, Known, Item, once, maybe, many, meaning, order, step, node, model, optional, known, leaf, container, knownTypes, lookup}
+use Rattle.lvs_spec.specs.Grammar.{Kind, Known, Item, once, maybe, many, meaning, order, step, node, model, optional, known, container, knownTypes, lookup}
 use Rattle.lvs_spec.specs.WellFormed.{insideOk, wellFormedBy, wellFormed}
 use Rattle.lvs_spec.specs.Model.{Edge, edges, noNode, nodeOf, valueEdgeOf, patternEdgeOf}
 use Rattle.lvs_spec.proofs.Lists.{clash}
-use Rattle.lvs_spec.proofs.Grammar.{both, eachCut-nexts, types-differ, Ordered, stop, skip, take, Row, row}
+use Rattle.lvs_spec.proofs.Grammar.{both, eachCut-nexts, Ordered, stop, skip, take, row}
 use Rattle.lvs_edges.specs.Edges.{edgeOf, edgeFrom, fileEdges}
 use Rattle.lvs_edges.specs.Nodes.{nodeInside}
 use Rattle.lvs_edges.proofs.Edges.{from-value, from-pattern, from-other, no-edges}

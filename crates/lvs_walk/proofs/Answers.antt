@@ -5,14 +5,13 @@ use mathlib.Core.Bool.{Bool, true, false}
 use mathlib.Core.List.{List, [], _∷_, _++_, map}
 use mathlib.Core.Option.{Option, none, some, Option·some-injective}
 use Rattle.tlv.specs.Lists.{each, when, first}
-use Rattle.lvs_spec.specs.Model.{Model, modelOf}
+use Rattle.lvs_spec.specs.Model.{Model}
 use Rattle.lvs_spec.specs.Names.{Component}
-use Rattle.lvs_spec.specs.Walk.{Match, Pair, Event, looked, found, continue, foundIn, answers, noBindings, begin, trace, packetRow, packetTrace, packetMatches, keyTrace, lists, signed, signTrace, pairTrace, pairs}
+use Rattle.lvs_spec.specs.Walk.{Match, Pair, Event, looked, found, continue, answers, noBindings, begin, packetTrace, packetMatches, keyTrace, lists, signed, signTrace, pairTrace, pairs}
 use Rattle.lvs_spec.specs.Answers.{SignAnswer, pairFound}
 use Rattle.lvs_spec.proofs.Lists.{clash}
-use Rattle.lvs_spec.proofs.Trace.{each-same}
 use Rattle.lvs_names.specs.Rows.{rowFrom}
-use Rattle.lvs_bindings.specs.Slots.{slotWords, Room, binding, bindingsOf}
+use Rattle.lvs_bindings.specs.Slots.{Room, binding, bindingsOf}
 use Rattle.lvs_walk.specs.Search.{Hit, listed, worth, hits, firstFound, rowFor, hitOf, First}
 use Rattle.lvs_walk.specs.Calls.{clear, matchOf, FirstMatch, signFound, FirstPair}
 use Rattle.lvs_walk.specs.declared.Goal.the-variants.{Match as AnyMatch, Packet}

@@ -6,12 +6,11 @@ use mathlib.Core.List.{List, [], _∷_, _++_, append-nil}
 use mathlib.Core.Option.{Option, none, some}
 use Rattle.tlv.specs.Lists.{each, onward, first}
 use Rattle.lvs_spec.specs.Model.{Model, Edge, edges, nodeAt}
-use Rattle.lvs_spec.specs.Walk.{Binding, Match, Event, looked, found, continue, foundIn, answers, begin, cross, trace, keyTrace, keyRow, lists}
+use Rattle.lvs_spec.specs.Walk.{Binding, Match, Event, looked, continue, foundIn, answers, begin, cross, trace, keyTrace, lists}
 use Rattle.lvs_spec.proofs.Lists.{orElse, first-append, each-append, each-each}
 use Rattle.lvs_spec.proofs.Trace.{each-same}
-use Rattle.lvs_names.specs.Rows.{rowFrom}
 use Rattle.lvs_bindings.specs.Slots.{Room, bindingsOf}
-use Rattle.lvs_walk.specs.Search.{Hit, listed, worth, hits, firstFound, nameFor, rowFor, Started, hitOf, First}
+use Rattle.lvs_walk.specs.Search.{Hit, listed, worth, hits, firstFound, rowFor, Started, First}
 use Rattle.lvs_walk.specs.declared.Goal.{Goal}
 use Rattle.lvs_walk.specs.declared.Goal.the-variants.{Match as AnyMatch, Packet, Key}
 use Rattle.lvs_walk.specs.declared.Found.{Found}

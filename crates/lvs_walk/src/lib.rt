@@ -11,7 +11,6 @@ use lvs_edges::nodes::PLACE_WORDS;
 use lvs_names::ComponentRead;
 use lvs_spec::types::NODE_ID;
 ghost use mathlib.Core.Path.{_≡_};
-ghost use mathlib.Core.Bool.{true, false};
 ghost use Prim.Native.Nat.{_+_, _≤_};
 ghost use lib.ListN.{length};
 ghost use Rattle.lvs_spec.specs.Limits.{maxNameBytes};
@@ -147,7 +146,16 @@ pub fn find_match(
     ensures { λ r. ⌜ FirstMatch (modelOf (now (model .entry))) (rowFrom (now (name .entry)) from) (now (name .entry)) r (now (slots .exit)) ⌝ }
 {
     let start = tlv::number_in(model, NODE_ID);
-    walk(model, places, name, &name[..0], Goal::Match, start, from, slots)
+    walk(
+        model,
+        places,
+        name,
+        &name[..0],
+        Goal::Match,
+        start,
+        from,
+        slots,
+    )
 }
 
 // The first pair of a packet match and a key match that may sign it.
@@ -166,5 +174,14 @@ pub fn find_pair<'a>(
     let start = tlv::number_in(model, NODE_ID);
     let goal = Goal::Packet { start, key_from };
     let mut slots = [0u32; SLOT_WORDS];
-    walk(model, places, packet, key, goal, start, packet_from, &mut slots)
+    walk(
+        model,
+        places,
+        packet,
+        key,
+        goal,
+        start,
+        packet_from,
+        &mut slots,
+    )
 }

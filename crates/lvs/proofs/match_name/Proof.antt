@@ -1,86 +1,102 @@
 -- `lvs::match_name` meets its contract: what the callees answered says which case of `matchOutcome` it is. Assumes nothing.
 use borrow.Author.Needs.{needs}
-use mathlib.Core.Path.{refl, sym, ap, _∙_}
+use mathlib.Core.Path.{_≡_, refl, sym, ap, _∙_}
+use Rattle.lvs_spec.specs.Verdict.{Verdict, verdict}
+use Rattle.lvs_spec.specs.Names.{goodName, nameReading}
+use Rattle.lvs_spec.specs.Answers.{matchRefused}
 use Rattle.lvs_names.specs.Answers.{nameRead}
-use Rattle.lvs.specs.Readings.{verdictOf}
+use Rattle.lvs_names.specs.Rows.{rowFrom}
 use Rattle.lvs_walk.proofs.Answers.{found-none, found-match}
-use Rattle.lvs.proofs.Calls.{small, name-short, match-refused, match-bad-name, match-no-room, match-none, match-some}
+use Rattle.lvs.specs.Readings.{verdictOf}
+use Rattle.lvs.proofs.Calls.{walkable, name-short, match-refused, match-bad-name, match-no-room, match-none, match-some}
 use Rattle.lvs.proofs.match_name.Statement.{statement}
 use Rattle.lvs.proofs.match_name.Tie as tie
 
-judge-model-requires : tie.Need-judge-model-requires
-judge-model-requires c κs = search needs
+-- where the call began, the model was accepted, and the name was good; and what these say
+abbrev start : tie.After-judge-model → tie.Start
+start c = c .before .before .before .before
 
-enum-known-number : tie.Need-enum-known-number
-enum-known-number c = search needs
+accepted : (c : tie.After-enum-told) → verdict (start (c .before .before) .args .model .now) ≡ Verdict.accepted (c .enum-told .given .0 .0)
+accepted c = sym (c .before .before .judge-model .ensures) ∙ ap verdictOf (c .enum-told .given .1)
+
+abbrev judged : tie.After-from → tie.After-enum-told
+judged c = c .before .before .before
+
+abbrev began : tie.After-from → tie.Start
+began c = start (judged c .before .before)
+
+good : (c : tie.After-from) → goodName (rowFrom (began c .args .name .now) (c .from .given .0 .0)) ≡ nameReading 21 (began c .args .name .now)
+good c = sym (ap (nameRead (began c .args .name .now)) (c .from .given .1)) ∙ c .before .before .read-name .ensures
 
 returns : tie.Need-returns
-returns c = sym (match-refused (c .before .before .before .before .before .before .before .args .model .now) (c .before .before .before .before .before .before .before .args .name .now) (c .before .before .before .before .before .before .before .args .buffer .now) (sym (c .before .before .before .judge-model .ensures) ∙ ap verdictOf (c .before .number .given .1)))
-
-enum-told : tie.Need-enum-told
-enum-told c = search needs
-
-read-name-requires : tie.Need-read-name-requires
-read-name-requires c κs = search needs
-
-enum-known-number-2 : tie.Need-enum-known-number-2
-enum-known-number-2 c = search needs
-
-enum-known-from : tie.Need-enum-known-from
-enum-known-from c = search needs
+unfolding matchRefused
+returns c =
+    let j = c .before .before .before in
+    let a = start j .args in
+    sym (match-refused (a .model .now) (a .name .now) (a .buffer .now) (sym (j .judge-model .ensures) ∙ ap verdictOf (c .before .number .given .1)))
 
 returns-2 : tie.Need-returns-2
-returns-2 c = sym (match-no-room (c .before .before .before .before .before .before .before .before .before .before .before .args .model .now) (c .before .before .before .before .before .before .before .before .before .before .before .args .name .now) (c .before .before .before .before .before .before .before .before .before .before .before .args .buffer .now) (sym (c .before .before .before .before .before .before .before .judge-model .ensures) ∙ ap verdictOf (c .before .before .before .before .before .enum-told .given .1)) (sym (ap (nameRead (c .before .before .before .before .before .before .before .before .before .before .before .args .name .now)) (c .before .before .from .given .1)) ∙ c .before .before .before .before .read-name .ensures) (c .if1 .taken))
+unfolding matchRefused
+returns-2 c =
+    let f = c .before .before in
+    let a = began f .args in
+    sym (match-no-room (a .model .now) (a .name .now) (a .buffer .now) (accepted (judged f)) (good f) (c .if1 .taken))
 
-slice-aggregate-find-match : tie.Need-slice-aggregate-find-match
-slice-aggregate-find-match c = search needs
+node-places-requires : tie.Need-node-places-requires
+node-places-requires c κs = let f = c .before .before .before in (walkable (began f .args .model .now) (accepted (judged f)), refl)
 
 find-match-requires : tie.Need-find-match-requires
-find-match-requires c κs = (small (c .before .before .before .before .before .before .before .before .before .before .before .before .args .model .now) (sym (c .before .before .before .before .before .before .before .before .judge-model .ensures) ∙ ap verdictOf (c .before .before .before .before .before .before .enum-told .given .1)), (name-short 21 (c .before .before .before .before .before .before .before .before .before .before .before .before .args .name .now) (sym (ap (nameRead (c .before .before .before .before .before .before .before .before .before .before .before .before .args .name .now)) (c .before .before .before .from .given .1)) ∙ c .before .before .before .before .before .read-name .ensures), refl))
-
-enum-told-2 : tie.Need-enum-told-2
-enum-told-2 c = search needs
-
-enum-known-node : tie.Need-enum-known-node
-enum-known-node c = search needs
-
-slice-aggregate-write-words : tie.Need-slice-aggregate-write-words
-slice-aggregate-write-words c = search needs
+find-match-requires c κs =
+    let f = c .before .before .before .before .before .before in
+    (c .before .before .node-places .ensures, (name-short 21 (began f .args .name .now) (good f), refl))
 
 write-words-requires : tie.Need-write-words-requires
-write-words-requires c κs = search needs
+write-words-requires c κs =
+    (c .before .before .before .before .before .find-match .ensures .room, c .before .before .before .before .before .before .before .before .before .before .if1 .left)
 
 returns-3 : tie.Need-returns-3
-returns-3 c = sym (match-bad-name (c .before .before .before .before .before .before .before .before .before .before .args .model .now) (c .before .before .before .before .before .before .before .before .before .before .args .name .now) (c .before .before .before .before .before .before .before .before .before .before .args .buffer .now) (sym (c .before .before .before .before .before .before .judge-model .ensures) ∙ ap verdictOf (c .before .before .before .before .enum-told .given .1)) (sym (ap (nameRead (c .before .before .before .before .before .before .before .before .before .before .args .name .now)) (c .before .number2 .given .1)) ∙ c .before .before .before .read-name .ensures))
+unfolding matchRefused
+returns-3 c =
+    let read = c .before .before .before in
+    let e = read .before in
+    let a = start (e .before .before) .args in
+    let bad = sym (ap (nameRead (a .name .now)) (c .before .number2 .given .1)) ∙ read .read-name .ensures in
+    sym (match-bad-name (a .model .now) (a .name .now) (a .buffer .now) (accepted e) bad)
 
 returns-4 : tie.Need-returns-4
-returns-4 c = sym (match-none (c .before .before .before .before .before .before .before .before .before .before .before .before .before .before .before .before .args .model .now) (c .before .before .before .before .before .before .before .before .before .before .before .before .before .before .before .before .args .name .now) (c .before .before .before .before .before .before .before .before .before .before .before .before .before .before .before .before .args .buffer .now) (sym (c .before .before .before .before .before .before .before .before .before .before .before .before .judge-model .ensures) ∙ ap verdictOf (c .before .before .before .before .before .before .before .before .before .before .enum-told .given .1)) (sym (ap (nameRead (c .before .before .before .before .before .before .before .before .before .before .before .before .before .before .before .before .args .name .now)) (c .before .before .before .before .before .before .before .from .given .1)) ∙ c .before .before .before .before .before .before .before .before .before .read-name .ensures) (c .before .before .before .before .before .if1 .left) (found-none _ _ (c .before .before .before .before .before .before .before .before .before .before .before .before .before .before .before .before .args .name .now) (c .before .before .before .find-match .last .1 .1 .1 .0) (c .before .before .before .find-match .ensures) (c .enum-told2 .given .1)))
-
-same-length : tie.Need-same-length
-same-length c = search needs
+returns-4 c =
+    let f = c .before .before .before .before .before .before .before .before .before in
+    let a = began f .args in
+    sym (match-none (a .model .now) (a .name .now) (a .buffer .now) (accepted (judged f)) (good f) (c .before .before .before .before .before .before .before .if1 .left)
+    (found-none (c .before .before .find-match .ensures) (c .enum-told2 .given .1)))
 
 returns-5 : tie.Need-returns-5
-returns-5 c = match-some (c .before .before .before .before .before .before .before .before .before .before .before .before .before .before .before .before .before .before .before .before .before .before .args .model .now) (c .before .before .before .before .before .before .before .before .before .before .before .before .before .before .before .before .before .before .before .before .before .before .args .name .now) (c .before .before .before .before .before .before .before .before .before .before .before .before .before .before .before .before .before .before .before .before .before .before .args .buffer .now) (sym (c .before .before .before .before .before .before .before .before .before .before .before .before .before .before .before .before .before .before .judge-model .ensures) ∙ ap verdictOf (c .before .before .before .before .before .before .before .before .before .before .before .before .before .before .before .before .enum-told .given .1)) (sym (ap (nameRead (c .before .before .before .before .before .before .before .before .before .before .before .before .before .before .before .before .before .before .before .before .before .before .args .name .now)) (c .before .before .before .before .before .before .before .before .before .before .before .before .before .from .given .1)) ∙ c .before .before .before .before .before .before .before .before .before .before .before .before .before .before .before .read-name .ensures) (c .before .before .before .before .before .before .before .before .before .before .before .if1 .left) (found-match _ _ (c .before .before .before .before .before .before .before .before .before .before .before .before .before .before .before .before .before .before .before .before .before .before .args .name .now) (c .before .before .before .before .before .before .before .before .before .find-match .last .1 .1 .1 .0) (c .before .before .before .before .before .before .before .before .before .find-match .ensures) (c .before .before .before .before .before .before .node .given .1)) (c .before .before .write-words .ensures .0) (c .before .before .write-words .ensures .1)
+returns-5 c =
+    let x = c .before .before .before .before .before .before .before .before in
+    let f = x .before .before .before .before .before .before .before in
+    let a = began f .args in
+    let w = c .before .before .write-words .ensures in
+    match-some (a .model .now) (a .name .now) (a .buffer .now) (accepted (judged f)) (good f) (x .before .before .before .before .before .if1 .left)
+    (found-match (x .find-match .ensures) (c .before .before .before .before .before .before .node .given .1)) (w .0) (w .1)
 
 pub match-name-spec : {M : Type 1} → statement M
 match-name-spec =
     tie.close
     (tie.spec
-    judge-model-requires
-    enum-known-number
+    (λ c κs. search needs)
+    (λ c. search needs)
     returns
-    enum-told
-    read-name-requires
-    enum-known-number-2
-    enum-known-from
+    (λ c. search needs)
+    (λ c κs. search needs)
+    (λ c. search needs)
+    (λ c. search needs)
     returns-2
-    slice-aggregate-find-match
+    node-places-requires
     find-match-requires
-    enum-told-2
-    enum-known-node
-    slice-aggregate-write-words
+    (λ c. search needs)
+    (λ c. search needs)
     write-words-requires
     returns-3
     returns-4
-    same-length
+    (λ c. search needs)
     returns-5)

@@ -1,81 +1,104 @@
 -- `lvs::sign` meets its contract: what the callees answered says which case of `signAnswer` it is. Assumes nothing.
 use borrow.Author.Needs.{needs}
-use mathlib.Core.Path.{sym, ap, _∙_}
+use mathlib.Core.Path.{_≡_, refl, sym, ap, _∙_}
+use Rattle.lvs_spec.specs.Verdict.{Verdict, verdict}
+use Rattle.lvs_spec.specs.Names.{goodName, nameReading}
 use Rattle.lvs_names.specs.Answers.{nameRead}
-use Rattle.lvs.specs.Readings.{verdictOf}
+use Rattle.lvs_names.specs.Rows.{rowFrom}
 use Rattle.lvs_walk.proofs.Answers.{found-no-pair, found-pair}
-use Rattle.lvs.proofs.Calls.{small, name-short, sign-refused, sign-bad-packet, sign-bad-key, sign-none, sign-some}
+use Rattle.lvs.specs.Readings.{verdictOf}
+use Rattle.lvs.proofs.Calls.{walkable, name-short, sign-refused, sign-bad-packet, sign-bad-key, sign-walked}
 use Rattle.lvs.proofs.sign.Statement.{statement}
 use Rattle.lvs.proofs.sign.Tie as tie
 
-judge-model-requires : tie.Need-judge-model-requires
-judge-model-requires c κs = search needs
+-- where the call began, the model was accepted, and the names were good; and what these say
+abbrev start : tie.After-judge-model → tie.Start
+start c = c .before .before .before .before
 
-enum-known-number : tie.Need-enum-known-number
-enum-known-number c = search needs
+accepted : (c : tie.After-enum-told) → verdict (start (c .before .before) .args .model .now) ≡ Verdict.accepted (c .enum-told .given .0 .0)
+accepted c = sym (c .before .before .judge-model .ensures) ∙ ap verdictOf (c .enum-told .given .1)
+
+abbrev judged : tie.After-p → tie.After-enum-told
+judged c = c .before .before .before
+
+abbrev began : tie.After-p → tie.Start
+began c = start (judged c .before .before)
+
+good-packet : (c : tie.After-p) → goodName (rowFrom (began c .args .packet .now) (c .p .given .0 .0)) ≡ nameReading 21 (began c .args .packet .now)
+good-packet c = sym (ap (nameRead (began c .args .packet .now)) (c .p .given .1)) ∙ c .before .before .read-name .ensures
+
+abbrev packet : tie.After-k → tie.After-p
+packet c = c .before .before .before .before
+
+good-key : (c : tie.After-k) → goodName (rowFrom (began (packet c) .args .key .now) (c .k .given .0 .0)) ≡ nameReading 24 (began (packet c) .args .key .now)
+good-key c = sym (ap (nameRead (began (packet c) .args .key .now)) (c .k .given .1)) ∙ c .before .before .read-name2 .ensures
 
 returns : tie.Need-returns
-returns c = sym (sign-refused (c .before .before .before .before .before .before .before .args .model .now) (c .before .before .before .before .before .before .before .args .packet .now) (c .before .before .before .before .before .before .before .args .key .now) (sym (c .before .before .before .judge-model .ensures) ∙ ap verdictOf (c .before .number .given .1)))
-
-enum-told : tie.Need-enum-told
-enum-told c = search needs
-
-read-name-requires : tie.Need-read-name-requires
-read-name-requires c κs = search needs
-
-enum-known-number-2 : tie.Need-enum-known-number-2
-enum-known-number-2 c = search needs
-
-enum-known-p : tie.Need-enum-known-p
-enum-known-p c = search needs
-
-read-name-requires-2 : tie.Need-read-name-requires-2
-read-name-requires-2 c κs = search needs
-
-enum-known-number-3 : tie.Need-enum-known-number-3
-enum-known-number-3 c = search needs
-
-enum-known-k : tie.Need-enum-known-k
-enum-known-k c = search needs
-
-find-pair-requires : tie.Need-find-pair-requires
-find-pair-requires c κs = (small (c .before .before .before .before .before .before .before .before .before .before .before .before .before .before .args .model .now) (sym (c .before .before .before .before .before .before .before .before .before .before .judge-model .ensures) ∙ ap verdictOf (c .before .before .before .before .before .before .before .before .enum-told .given .1)), (name-short 21 (c .before .before .before .before .before .before .before .before .before .before .before .before .before .before .args .packet .now) (sym (ap (nameRead (c .before .before .before .before .before .before .before .before .before .before .before .before .before .before .args .packet .now)) (c .before .before .before .before .before .p .given .1)) ∙ c .before .before .before .before .before .before .before .read-name .ensures), name-short 24 (c .before .before .before .before .before .before .before .before .before .before .before .before .before .before .args .key .now) (sym (ap (nameRead (c .before .before .before .before .before .before .before .before .before .before .before .before .before .before .args .key .now)) (c .before .k .given .1)) ∙ c .before .before .before .read-name2 .ensures)))
-
-enum-told-2 : tie.Need-enum-told-2
-enum-told-2 c = search needs
-
-enum-known-packet : tie.Need-enum-known-packet
-enum-known-packet c = search needs
+returns c =
+    let j = c .before .before .before in
+    let a = start j .args in
+    sym (sign-refused (a .model .now) (a .packet .now) (a .key .now) (sym (j .judge-model .ensures) ∙ ap verdictOf (c .before .number .given .1)))
 
 returns-2 : tie.Need-returns-2
-returns-2 c = sym (sign-bad-packet (c .before .before .before .before .before .before .before .before .before .before .args .model .now) (c .before .before .before .before .before .before .before .before .before .before .args .packet .now) (c .before .before .before .before .before .before .before .before .before .before .args .key .now) (sym (c .before .before .before .before .before .before .judge-model .ensures) ∙ ap verdictOf (c .before .before .before .before .enum-told .given .1)) (sym (ap (nameRead (c .before .before .before .before .before .before .before .before .before .before .args .packet .now)) (c .before .number2 .given .1)) ∙ c .before .before .before .read-name .ensures))
+returns-2 c =
+    let read = c .before .before .before in
+    let e = read .before in
+    let a = start (e .before .before) .args in
+    let bad = sym (ap (nameRead (a .packet .now)) (c .before .number2 .given .1)) ∙ read .read-name .ensures in
+    sym (sign-bad-packet (a .model .now) (a .packet .now) (a .key .now) (accepted e) bad)
 
 returns-3 : tie.Need-returns-3
-returns-3 c = sym (sign-bad-key (c .before .before .before .before .before .before .before .before .before .before .before .before .before .before .args .model .now) (c .before .before .before .before .before .before .before .before .before .before .before .before .before .before .args .packet .now) (c .before .before .before .before .before .before .before .before .before .before .before .before .before .before .args .key .now) (sym (c .before .before .before .before .before .before .before .before .before .before .judge-model .ensures) ∙ ap verdictOf (c .before .before .before .before .before .before .before .before .enum-told .given .1)) (sym (ap (nameRead (c .before .before .before .before .before .before .before .before .before .before .before .before .before .before .args .packet .now)) (c .before .before .before .before .before .p .given .1)) ∙ c .before .before .before .before .before .before .before .read-name .ensures) (sym (ap (nameRead (c .before .before .before .before .before .before .before .before .before .before .before .before .before .before .args .key .now)) (c .before .number3 .given .1)) ∙ c .before .before .before .read-name2 .ensures))
+returns-3 c =
+    let read = c .before .before .before in
+    let p = read .before .before in
+    let a = began p .args in
+    let bad = sym (ap (nameRead (a .key .now)) (c .before .number3 .given .1)) ∙ read .read-name2 .ensures in
+    sym (sign-bad-key (a .model .now) (a .packet .now) (a .key .now) (accepted (judged p)) (good-packet p) bad)
 
+node-places-requires : tie.Need-node-places-requires
+node-places-requires c κs = let p = packet (c .before .before) in (walkable (began p .args .model .now) (accepted (judged p)), refl)
+
+find-pair-requires : tie.Need-find-pair-requires
+find-pair-requires c κs =
+    let k = c .before .before .before .before in
+    let a = began (packet k) .args in
+    (c .before .node-places .ensures, (name-short 21 (a .packet .now) (good-packet (packet k)), name-short 24 (a .key .now) (good-key k)))
+
+-- the answer of the search, for the two names
 returns-4 : tie.Need-returns-4
-returns-4 c = sym (sign-none (c .before .before .before .before .before .before .before .before .before .before .before .before .before .before .before .before .before .args .model .now) (c .before .before .before .before .before .before .before .before .before .before .before .before .before .before .before .before .before .args .packet .now) (c .before .before .before .before .before .before .before .before .before .before .before .before .before .before .before .before .before .args .key .now) (sym (c .before .before .before .before .before .before .before .before .before .before .before .before .before .judge-model .ensures) ∙ ap verdictOf (c .before .before .before .before .before .before .before .before .before .before .before .enum-told .given .1)) (sym (ap (nameRead (c .before .before .before .before .before .before .before .before .before .before .before .before .before .before .before .before .before .args .packet .now)) (c .before .before .before .before .before .before .before .before .p .given .1)) ∙ c .before .before .before .before .before .before .before .before .before .before .read-name .ensures) (sym (ap (nameRead (c .before .before .before .before .before .before .before .before .before .before .before .before .before .before .before .before .before .args .key .now)) (c .before .before .before .before .k .given .1)) ∙ c .before .before .before .before .before .before .read-name2 .ensures) (found-no-pair _ _ _ (c .before .before .find-pair .ensures) (c .enum-told2 .given .1)))
+returns-4 c =
+    let k = c .before .before .before .before .before .before .before in
+    let p = packet k in
+    let a = began p .args in
+    sym (sign-walked (a .model .now) (a .packet .now) (a .key .now) (accepted (judged p)) (good-packet p) (good-key k)
+    ∙ found-no-pair (c .before .before .find-pair .ensures) (c .enum-told2 .given .1))
 
 returns-5 : tie.Need-returns-5
-returns-5 c = sym (sign-some (c .before .before .before .before .before .before .before .before .before .before .before .before .before .before .before .before .before .before .args .model .now) (c .before .before .before .before .before .before .before .before .before .before .before .before .before .before .before .before .before .before .args .packet .now) (c .before .before .before .before .before .before .before .before .before .before .before .before .before .before .before .before .before .before .args .key .now) (sym (c .before .before .before .before .before .before .before .before .before .before .before .before .before .before .judge-model .ensures) ∙ ap verdictOf (c .before .before .before .before .before .before .before .before .before .before .before .before .enum-told .given .1)) (sym (ap (nameRead (c .before .before .before .before .before .before .before .before .before .before .before .before .before .before .before .before .before .before .args .packet .now)) (c .before .before .before .before .before .before .before .before .before .p .given .1)) ∙ c .before .before .before .before .before .before .before .before .before .before .before .read-name .ensures) (sym (ap (nameRead (c .before .before .before .before .before .before .before .before .before .before .before .before .before .before .before .before .before .before .args .key .now)) (c .before .before .before .before .before .k .given .1)) ∙ c .before .before .before .before .before .before .before .read-name2 .ensures) (found-pair _ _ _ (c .before .before .before .find-pair .ensures) (c .before .packet .given .1)))
+returns-5 c =
+    let k = c .before .before .before .before .before .before .before .before in
+    let p = packet k in
+    let a = began p .args in
+    sym (sign-walked (a .model .now) (a .packet .now) (a .key .now) (accepted (judged p)) (good-packet p) (good-key k)
+    ∙ found-pair (c .before .before .before .find-pair .ensures) (c .before .packet .given .1))
 
 pub sign-spec : {M : Type 1} → statement M
 sign-spec =
     tie.close
     (tie.spec
-    judge-model-requires
-    enum-known-number
+    (λ c κs. search needs)
+    (λ c. search needs)
     returns
-    enum-told
-    read-name-requires
-    enum-known-number-2
-    enum-known-p
-    read-name-requires-2
-    enum-known-number-3
-    enum-known-k
+    (λ c. search needs)
+    (λ c κs. search needs)
+    (λ c. search needs)
+    (λ c. search needs)
+    (λ c κs. search needs)
+    (λ c. search needs)
+    (λ c. search needs)
+    node-places-requires
     find-pair-requires
-    enum-told-2
-    enum-known-packet
+    (λ c. search needs)
+    (λ c. search needs)
     returns-2
     returns-3
     returns-4

@@ -1,11 +1,5 @@
 -- `lvs_edges::cross` meets its contract. Assumes nothing.
 use borrow.Author.Needs.{needs}
-use mathlib.Core.Bool.{Bool}
-use mathlib.Core.Path.{subst, sym}
-use lib.ListN.{length}
-use Rattle.lvs_bindings.specs.Slots.{bindingAt}
-use Rattle.lvs_edges.specs.Edges.{edgeOf}
-use Rattle.lvs_edges.specs.Crossing.{Crossed}
 use Rattle.lvs_edges.proofs.Crossed.{value-crossed}
 use Rattle.lvs_edges.proofs.cross.Statement.{statement}
 use Rattle.lvs_edges.proofs.cross.Tie as tie

@@ -1,6 +1,5 @@
 -- `lvs_edges::cross_pattern` meets its contract. Assumes nothing.
 use borrow.Author.Needs.{needs}
-use native.Mathlib.Omega.{arith}
 use mathlib.Core.Path.{refl}
 use borrow.Author.Tests.{not-true, not-false}
 use Rattle.lvs_edges.proofs.Crossed.{free-shut, free-open, bound-other, bound-shut, bound-open}

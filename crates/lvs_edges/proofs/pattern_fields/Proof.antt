@@ -1,7 +1,6 @@
 -- `lvs_edges::pattern_fields` meets its contract. Assumes nothing.
 use borrow.Author.Needs.{needs}
 use native.Mathlib.Omega.{arith}
-use Rattle.lvs_edges.specs.Crossing.{PlainPattern}
 use Rattle.lvs_edges.proofs.Plain.{plain-fields, any-fields}
 use Rattle.lvs_edges.proofs.pattern_fields.Statement.{statement}
 use Rattle.lvs_edges.proofs.pattern_fields.Tie as tie

@@ -2,7 +2,6 @@
 use borrow.Author.Needs.{needs}
 use native.Mathlib.Omega.{arith}
 use borrow.Author.Tests.{eqb-true}
-use Rattle.lvs_edges.specs.Crossing.{PlainPattern}
 use Rattle.lvs_edges.proofs.Plain.{never}
 use Rattle.lvs_edges.proofs.plain_pattern.Statement.{statement}
 use Rattle.lvs_edges.proofs.plain_pattern.Tie as tie

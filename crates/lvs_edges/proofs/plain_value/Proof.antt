@@ -2,7 +2,6 @@
 use borrow.Author.Needs.{needs}
 use native.Mathlib.Omega.{arith}
 use borrow.Author.Tests.{eqb-true}
-use Rattle.lvs_edges.specs.Crossing.{PlainValue}
 use Rattle.lvs_edges.proofs.Plain.{never}
 use Rattle.lvs_edges.proofs.plain_value.Statement.{statement}
 use Rattle.lvs_edges.proofs.plain_value.Tie as tie

@@ -13,7 +13,7 @@ use Rattle.lvs_spec.specs.Model.{modelOf}
 use Rattle.lvs_names.specs.Contents.{RowStep}
 use Rattle.lvs_edges.specs.Nodes.{BodyPart}
 use Rattle.lvs_edges.proofs.Places.{body-of-part}
-use Rattle.lvs_walk.specs.Search.{nameFor, rowFor, Within, Started}
+use Rattle.lvs_walk.specs.Search.{nameFor, rowFor, Within}
 use Rattle.lvs_walk.specs.declared.Goal.{Goal}
 use Rattle.lvs_walk.proofs.Rows.{Component, name-short, has-component, no-component, component}
 use Rattle.lvs_walk.proofs.Hits.{end-match, end-packet, end-key, end-key-not}
@@ -251,11 +251,13 @@ walk-requires-2 t c κs =
     let l = turn t x in
     let s = began t l in
     let w = within t s in
-    let f = here t (node t l .before) in
-    (omega (arith, s .pre .0, f .after, f .within), (
-      record { nodes = w .nodes; packet-short = w .packet-short; key-short = w .key-short; room = x .cross .ensures .room },
-      s .pre .1 .1,
-    ))
+    let f = here t (node t l .before) in (
+      omega (arith, s .pre .0, f .after, f .within),
+      (
+        record { nodes = w .nodes; packet-short = w .packet-short; key-short = w .key-short; room = x .cross .ensures .room },
+        s .pre .1 .1,
+      ),
+    )
 
 returns-6 : (t : ℕ) → at walk-lts.Need-returns-6 t
 returns-6 t c =

@@ -1,5 +1,4 @@
 -- `lvs_walk::find_match` meets its contract. Assumes nothing.
-use mathlib.Core.Path.{_≡_}
 use native.Mathlib.Omega.{arith}
 use borrow.Author.Needs.{needs}
 use Rattle.lvs_spec.specs.Model.{modelOf}

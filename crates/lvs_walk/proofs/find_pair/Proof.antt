@@ -1,5 +1,5 @@
 -- `lvs_walk::find_pair` meets its contract. Assumes nothing.
-use mathlib.Core.Path.{_≡_, refl}
+use mathlib.Core.Path.{refl}
 use borrow.Author.Needs.{needs}
 use Rattle.lvs_spec.specs.Model.{modelOf}
 use Rattle.lvs_walk.proofs.Answers.{clear-room, pair-first}

@@ -1,5 +1,4 @@
 -- `lvs_edges::nodes::in_body` meets its contract. Assumes nothing.
-use borrow.Author.Needs.{needs}
 use Rattle.lvs_edges.proofs.Bodies.{in-value, in-pattern, in-signer}
 use Rattle.lvs_edges.proofs.nodes.in_body.Statement.{statement}
 use Rattle.lvs_edges.proofs.nodes.in_body.Tie as tie

@@ -1,9 +1,8 @@
 -- `lvs_edges::nodes::node_places` meets its contract. The invariant `Filled`: the words of the first n Nodes are there. Assumes nothing.
 use borrow.Author.Needs.{needs}
-use Prim.Native.Nat.{_-_, _≤_, _<_, _+_}
+use Prim.Native.Nat.{_-_, _≤_, _<_}
 use native.Mathlib.Omega.{arith}
 use lib.ListN.{length}
-use Rattle.tlv.specs.Fields.{insides}
 use Rattle.tlv.proofs.Cuts.{seen, SeenOf}
 use Rattle.tlv.proofs.Gathered.{stop-end, stop-malformed}
 use Rattle.lvs_spec.specs.Limits.{maxNodes}
