@@ -1,12 +1,16 @@
 #!/usr/bin/env python3
 """The speed of lvs_cases and of the reference checker (reference/, in Rust, release build) on the same cases, and the ratios.
 
-usage: speed.py
+usage: speed.py [WORD..]    only the rows whose name has one of the words; none: all, in about six minutes
 
 A case is run many times by both programs. What reading and printing it costs is taken off: the same run with a model of the same length
 whose first byte is wrong, which both refuse at once. Instructions are counted by valgrind --tool=callgrind. The ratio of the times is
-the median over several turns, in each of which both programs run one after the other; its least and largest value stand behind it. `a
+the median over several turns, in each of which both programs run one after the other; its least and largest value stand after it. `a
 byte` is our instructions for each byte of the model.
+
+Below these stand the walks alone: the instructions inside `lvs_walk::walk` and inside the reference's `walk_from`, without the verdict, the
+names and the places of the Nodes, which the reference finds while it judges; our pass that records the places is a column of its own. The
+last line is the stack that a level of our walk takes, read off the program.
 """
 import os
 import pathlib
@@ -103,7 +107,30 @@ def many_nodes():
     """254 ways out of the start, and the last of them is taken."""
     ways = [build.value_edge(i, f"{i:03}") for i in range(1, 255)]
     nodes = [build.node(0, *ways), *(build.node(i, build.parent(0), build.signer(i)) for i in range(1, 255))]
-    yield "many nodes", build.model(*nodes), build.path("/254"), build.path("/254")
+    yield "wide Node", build.model(*nodes), build.path("/254"), build.path("/254")
+
+
+INSTRUMENTS = "flute oboe clarinet bassoon horn trumpet trombone tuba timpani harp violin viola cello bass piano".split()
+
+
+def bushy(words):
+    """241 Nodes: from Node 0 and from fourteen of its children 15 ValueEdges and a PatternEdge each, with RuleNames."""
+    count, nodes = 241, []
+    for i in range(count):
+        children = range(16 * i + 1, min(16 * i + 17, count))
+        values = [build.value_edge(child, word) for child, word in zip(children, words)]
+        pattern = [build.pattern_edge(child, 1 + i % 8) for child in children[15:]]
+        up = [build.parent((i - 1) // 16)] if i else []
+        nodes.append(build.node(i, *up, build.rule_name(f"#rule{i}"), *values, *pattern, build.signer(i)))
+    return build.model(*nodes, patterns=8)
+
+
+def bushy_models():
+    model = bushy(INSTRUMENTS)
+    yield "bushy, by values", model, build.path("/bass/piano"), build.path("/bass/piano")
+    yield "bushy, by a pattern", model, build.path("/bass/tenor"), build.path("/bass/tenor")
+    alike = bushy([f"w{i:02}" for i in range(15)])
+    yield "bushy, values that differ at the end", alike, build.path("/w13/w14"), build.path("/w13/w14")
 
 
 def backtracking():
@@ -114,6 +141,12 @@ def backtracking():
     yield "deep backtracking", build.model(*nodes, build.node(6, build.parent(5)), patterns=2), name, name
 
 
+def signings():
+    """(what, model, packet name, key name)"""
+    for calls in (tutorial, long_names, many_nodes, bushy_models, backtracking):
+        yield from calls()
+
+
 def workloads():
     """(what, model, case)"""
     for shape in SHAPES:
@@ -121,9 +154,8 @@ def workloads():
             model = shape(size)
             assert size // 2 < len(model) <= size, (shape.__name__, size, len(model))
             yield f"verdict, {shape.__name__}, {size >> 10} KiB", model, build.verdict(model)
-    for calls in (tutorial, long_names, many_nodes, backtracking):
-        for what, model, packet, key in calls():
-            yield what, model, build.sign(model, packet, key)
+    for what, model, packet, key in signings():
+        yield what, model, build.sign(model, packet, key)
 
 
 # measuring
@@ -134,11 +166,13 @@ def spoiled(case):
     return case[:5] + b"\0" + case[6:]
 
 
-def instructions(program, case):
+def instructions(program, case, *inside):
+    """Instructions for one case; with `inside`, only those in a function of that name and what it calls."""
     with tempfile.TemporaryFile() as given:
         given.write(case * COUNTED)
         given.seek(0)
-        counter = ["valgrind", "--tool=callgrind", "--callgrind-out-file=/dev/null", str(program)]
+        collect = [f"--toggle-collect={name}" for name in inside]
+        counter = ["valgrind", "--tool=callgrind", "--callgrind-out-file=/dev/null", *collect, str(program)]
         ran = subprocess.run(counter, stdin=given, capture_output=True, check=True)
     return int(re.search(rb"Collected : (\d+)", ran.stderr).group(1)) / COUNTED
 
@@ -170,14 +204,37 @@ def row(what, model, case):
     count = min(count, (512 << 20) // len(case))
     times = time_ratios(case, count)
     spread = f"{times[0]:.2f} to {times[-1]:.2f}"
-    print(f"{what:<36}{ours:>12.0f}{theirs:>12.0f}{ours / theirs:>8.2f}{times[TURNS // 2]:>8.2f}{spread:>16}{ours / len(model):>8.1f}", flush=True)
+    print(f"{what:<40}{ours:>12.0f}{theirs:>12.0f}{ours / theirs:>8.2f}{times[TURNS // 2]:>8.2f}{spread:>16}{ours / len(model):>8.1f}", flush=True)
+
+
+def walk_row(what, case):
+    ours = instructions(PROGRAMS[0], case, "lvs_walk::walk")
+    places = instructions(PROGRAMS[0], case, "lvs_edges::nodes::node_places")
+    theirs = instructions(PROGRAMS[1], case, "*walk_from*")
+    print(f"{what:<40}{ours:>12.0f}{theirs:>12.0f}{ours / theirs:>8.2f}{places:>12.0f}", flush=True)
+
+
+def frame():
+    """Bytes of the stack for a level of the walk: its locals, the six registers that it saves, and the return address."""
+    code = subprocess.run(["objdump", "-d", str(PROGRAMS[0])], capture_output=True, text=True, check=True).stdout
+    start = code.index("<lvs_walk::walk>:")
+    locals_ = int(re.search(r"sub +\$0x([0-9a-f]+),%rsp", code[start:]).group(1), 16)
+    return locals_ + code[start:code.index("sub ", start)].count("push ") * 8 + 8
 
 
 def main():
+    words = sys.argv[1:]
+    wanted = lambda what: not words or any(word in what for word in words)
     build_reference()
-    print(f"{'':<36}{'ours':>12}{'reference':>12}{'ratio':>8}{'time':>8}{'':>16}{'a byte':>8}")
+    print(f"{'':<40}{'ours':>12}{'reference':>12}{'ratio':>8}{'time':>8}{'':>16}{'a byte':>8}")
     for what, model, case in workloads():
-        row(what, model, case)
+        if wanted(what):
+            row(what, model, case)
+    print(f"\n{'the walk alone':<40}{'ours':>12}{'reference':>12}{'ratio':>8}{'places':>12}")
+    for what, model, packet, key in signings():
+        if wanted(what):
+            walk_row(what, build.sign(model, packet, key))
+    print(f"\na level of the walk takes {frame()} bytes of the stack")
 
 
 if __name__ == "__main__":

@@ -1,0 +1,241 @@
+-- What is demanded of the three public calls, stated and proved. Read this file first.
+--
+-- The first part ties it to the code: what a caller's proof learns of a call is generated from the call's contract in src/lib.rt, and all that
+-- follows is derived from that. It holds of any bytes as model, names and buffer, since no call has a `requires`.
+--
+-- That each call ends, and does nothing undefined, is what the check proves of every function of these crates. Nothing is assumed: the
+-- libraries rest on no axiom and declare no C function. Not covered are the compiler's back end, and the programs' input and output.
+--
+-- The format, the walk and the refusal numbers are described in docs/format.md, and defined in crates/lvs_spec/specs/.
+use Prim.Native.Nat.{ℕ, _≤_}
+use mathlib.Core.Path.{_≡_, sym, ap, _∙_}
+use mathlib.Core.Logic.{_↔_}
+use mathlib.Core.Bool.{true}
+use mathlib.Core.List.{List, _++_, List·Memᴰ}
+use lib.ListN.{length}
+use contract.Lifetimes.{Lfts}
+use denote.Ref.{RefT, at-last}
+use Rattle.tlv.specs.Bytes.{Bytes}
+use Rattle.tlv.specs.Element.{Element, typeInRange, elementBytes, encode, InRange, Each}
+use Rattle.lvs_spec.specs.Limits.{maxModelBytes}
+use Rattle.lvs_spec.specs.Types as type
+use Rattle.lvs_spec.specs.Grammar.{meaning, optional, critical}
+use Rattle.lvs_spec.specs.WellFormed.{thisVersion}
+use Rattle.lvs_spec.specs.Model.{Model, modelOf}
+use Rattle.lvs_spec.specs.Verdict.{describes, reading, verdict}
+use Rattle.lvs_spec.specs.Answers.{Outcome, matchRefused, matchOutcome, signAnswer}
+use Rattle.lvs_spec.specs.Gaps.{bare, Inserted}
+use Rattle.lvs_spec.specs.Demands.{modelRefusals, matchRefusals, signRefusals, SomeMatch, NoMatch, SomeAllowed, NoneAllowed, Alike, AllRefuse, unnamed}
+use Rattle.lvs_spec.proofs.Refusals.{verdict-number}
+use Rattle.lvs_spec.proofs.Matching.{MatchedBy, match-matched, match-some, match-none, match-number}
+use Rattle.lvs_spec.proofs.Signing.{SignedBy, sign-allowed, sign-some, sign-none, sign-number}
+use Rattle.lvs_spec.proofs.Buffer.{refused-keeps, no-match-keeps, answer-by-length}
+use Rattle.lvs_spec.proofs.Unnamed.{accepted-same}
+use Rattle.lvs_spec.proofs.Demand3.{bare-alike, critical-refused, version-refused}
+use Rattle.lvs.specs.Answers.{verdictOf, matchAnswerOf, signAnswerOf}
+use Rattle.lvs.specs.declared.Verdict.{Verdict}
+use Rattle.lvs.specs.declared.Verdict.the-variants as verdicts
+use Rattle.lvs.specs.declared.MatchAnswer.{MatchAnswer}
+use Rattle.lvs.specs.declared.MatchAnswer.the-variants as matchings
+use Rattle.lvs.specs.declared.SignAnswer.{SignAnswer}
+use Rattle.lvs.specs.declared.SignAnswer.the-variants as signings
+use Rattle.lvs.proofs.Same.{same-verdict, same-matching, same-signing}
+use Rattle.lvs.proofs.judge_model.Reads as judge-model
+use Rattle.lvs.proofs.match_name.Reads as match-name
+use Rattle.lvs.proofs.sign.Reads as sign
+
+-- ---- what a caller learns. `Asked` and `Learnt` are generated from a call's `requires` and `ensures`: what its caller has to show, and what it
+-- then knows of the slices at entry, the answer and the slices at exit
+
+abbrev pub Slice : Type 0
+Slice = RefT (List ℕ)
+
+-- a call of `judge_model` with a slice that holds `model` answered r. Where the slice lies, and how long it lives, is left open
+pub record Judged (model : List ℕ) (r : Verdict) : Type 0 where
+  pub lives : Lfts 1
+  pub m : Slice
+  pub learnt : judge-model.Learnt lives (at-last m model, tt) r (at-last m model, tt)
+
+-- a call of `match_name` answered r, and the buffer then held the words `after`
+pub record Matched (model name buffer : List ℕ) (r : MatchAnswer) (after : List ℕ) : Type 0 where
+  pub lives : Lfts 3
+  pub m : Slice
+  pub n : Slice
+  pub b : Slice
+  pub learnt : match-name.Learnt lives (at-last m model, (at-last n name, (at-last b buffer, tt))) r
+      (at-last m model, (at-last n name, (at-last b after, tt)))
+
+-- a call of `sign` answered r
+pub record Signed (model packet key : List ℕ) (r : SignAnswer) : Type 0 where
+  pub lives : Lfts 2
+  pub m : Slice
+  pub p : Slice
+  pub k : Slice
+  pub learnt : sign.Learnt lives (at-last m model, (at-last p packet, (at-last k key, tt))) r
+      (at-last m model, (at-last p packet, (at-last k key, tt)))
+
+-- so much has to be known of a call: its answer, and each word of the buffer, are those of the definitions
+pub judged-is : {model : List ℕ} {r : Verdict} → Judged model r → verdictOf r ≡ verdict model
+judged-is c = c .learnt
+
+pub matched-is : {model name buffer after : List ℕ} {r : MatchAnswer} → Matched model name buffer r after
+    → _≡_ {A = Outcome} (record { answer = matchAnswerOf r; words = after }) (matchOutcome model name buffer)
+matched-is c = c .learnt
+
+pub signed-is : {model packet key : List ℕ} {r : SignAnswer} → Signed model packet key r → signAnswerOf r ≡ signAnswer model packet key
+signed-is c = c .learnt
+
+-- and nothing is asked of the caller
+pub judge-asks-nothing : (lives : Lfts 1) (m : Slice) → judge-model.Asked lives (m, tt)
+judge-asks-nothing lives m = tt
+
+pub match-asks-nothing : (lives : Lfts 3) (m n b : Slice) → match-name.Asked lives (m, (n, (b, tt)))
+match-asks-nothing lives m n b = tt
+
+pub sign-asks-nothing : (lives : Lfts 2) (m p k : Slice) → sign.Asked lives (m, (p, (k, tt)))
+sign-asks-nothing lives m p k = tt
+
+-- the parts of a match call's outcome
+answered : {model name buffer after : List ℕ} {r : MatchAnswer} → Matched model name buffer r after → matchAnswerOf r ≡ matchOutcome model name buffer .answer
+answered c = ap (λ (o : Outcome). o .answer) (matched-is c)
+
+left : {model name buffer after : List ℕ} {r : MatchAnswer} → Matched model name buffer r after → after ≡ matchOutcome model name buffer .words
+left c = ap (λ (o : Outcome). o .words) (matched-is c)
+
+-- ---- demand 1: a refused call leaves the buffer as it was, and so does "no match"
+
+pub refused-keeps-buffer : {model name buffer after : List ℕ} {number node : ℕ} → Matched model name buffer (matchings.Refused number node) after
+    → after ≡ buffer
+refused-keeps-buffer {model} {name} {buffer} c = left c ∙ refused-keeps model name buffer _ (sym (answered c))
+
+pub no-match-keeps-buffer : {model name buffer after : List ℕ} → Matched model name buffer matchings.NoMatch after → after ≡ buffer
+no-match-keeps-buffer {model} {name} {buffer} c = left c ∙ no-match-keeps model name buffer (sym (answered c))
+
+-- and a call gives only the refusals of the inputs that it takes
+pub judge-refusals : {model : List ℕ} {number node : ℕ} → Judged model (verdicts.Refused number node) → List·Memᴰ number modelRefusals
+judge-refusals {model} c = verdict-number model (sym (judged-is c))
+
+pub match-refusals : {model name buffer after : List ℕ} {number node : ℕ} → Matched model name buffer (matchings.Refused number node) after
+    → List·Memᴰ number matchRefusals
+match-refusals {model} {name} {buffer} c = match-number model name buffer _ (sym (answered c))
+
+pub sign-refusals : {model packet key : List ℕ} {number node : ℕ} → Signed model packet key (signings.Refused number node) → List·Memᴰ number signRefusals
+sign-refusals {model} {packet} {key} c = sign-number model packet key _ (sym (signed-is c))
+
+-- ---- demand 2: what is answered is what the definition of the walk finds, and the first of it
+
+-- a match exactly when there is one, "no match" exactly when there is none
+pub match-exactly : {model name buffer after : List ℕ} {r : MatchAnswer} → Matched model name buffer r after
+    → ((v n : ℕ) × (r ≡ matchings.Match v n)) ↔ SomeMatch model name buffer
+match-exactly {model} {name} {buffer} {r = r} c = (
+  λ (v, n, e). match-some model name buffer .0 (v, n, sym (answered c) ∙ ap matchAnswerOf e),
+  λ s. let (v, n, e) = match-some model name buffer .1 s in (v, n, same-matching r _ (answered c ∙ e)),
+)
+
+pub no-match-exactly : {model name buffer after : List ℕ} {r : MatchAnswer} → Matched model name buffer r after
+    → (r ≡ matchings.NoMatch) ↔ NoMatch model name buffer
+no-match-exactly {model} {name} {buffer} {r = r} c = (
+  λ e. match-none model name buffer .0 (sym (answered c) ∙ ap matchAnswerOf e),
+  λ s. same-matching r _ (answered c ∙ match-none model name buffer .1 s),
+)
+
+-- the match is the first; n Tags are bound, and the buffer holds their places, and then what it held
+pub first-match : {model name buffer after : List ℕ} {v n : ℕ} → Matched model name buffer (matchings.Match v n) after
+    → MatchedBy model name buffer v n after
+first-match {model} {name} {buffer} {v = v} {n = n} c =
+    rw (left c) (match-matched model name buffer v n (sym (answered c)))
+
+-- the answer does not depend on what the buffer holds, only on its length
+pub buffer-unread : {model name buffer other after last : List ℕ} {r q : MatchAnswer} → length buffer ≡ length other → Matched model name buffer r after
+    → Matched model name other q last → r ≡ q
+buffer-unread {model} {name} {buffer} {other} {r = r} {q = q} l c d =
+    same-matching r q (answered c ∙ answer-by-length model name buffer other l ∙ sym (answered d))
+
+-- "allowed" exactly when some packet match, and some key match that starts from its bindings, end at a node and at a signer which that node
+-- lists; "not allowed" exactly when none do
+pub allowed-exactly : {model packet key : List ℕ} {r : SignAnswer} → Signed model packet key r
+    → ((p k : ℕ) × (r ≡ signings.Allowed p k)) ↔ SomeAllowed model packet key
+allowed-exactly {model} {packet} {key} {r} c = (
+  λ (p, k, e). sign-some model packet key .0 (p, k, sym (signed-is c) ∙ ap signAnswerOf e),
+  λ s. let (p, k, e) = sign-some model packet key .1 s in (p, k, same-signing r _ (signed-is c ∙ e)),
+)
+
+pub not-allowed-exactly : {model packet key : List ℕ} {r : SignAnswer} → Signed model packet key r
+    → (r ≡ signings.NotAllowed) ↔ NoneAllowed model packet key
+not-allowed-exactly {model} {packet} {key} {r} c = (
+  λ e. sign-none model packet key .0 (sym (signed-is c) ∙ ap signAnswerOf e),
+  λ s. same-signing r _ (signed-is c ∙ sign-none model packet key .1 s),
+)
+
+-- the pair is the first: packet matches in order, for each the key matches in order
+pub first-pair : {model packet key : List ℕ} {p k : ℕ} → Signed model packet key (signings.Allowed p k) → SignedBy model packet key p k
+first-pair {model} {packet} {key} {p} {k} c = sign-allowed model packet key p k (sym (signed-is c))
+
+-- ---- demand 3: what the answers do not depend on, and what is refused
+
+-- two models have the same matches and signing answers and leave the same words, given the same names and equal buffers
+pub record SameAnswers (a b : List ℕ) : Type 0 where
+  pub matched : {name buffer after last : List ℕ} {r q : MatchAnswer} → Matched a name buffer r after → Matched b name buffer q last
+      → (r ≡ q) × (after ≡ last)
+  pub signed : {packet key : List ℕ} {r q : SignAnswer} → Signed a packet key r → Signed b packet key q → r ≡ q
+
+-- and the same verdict
+pub record SameCalls (a b : List ℕ) : Type 0 where
+  pub judged : {r q : Verdict} → Judged a r → Judged b q → r ≡ q
+  pub answers : SameAnswers a b
+
+-- all three calls refuse with this number, and leave the buffer as it is
+pub record RefusedCalls (number : ℕ) (b : List ℕ) : Type 0 where
+  pub judged : {r : Verdict} → Judged b r → r ≡ verdicts.Refused number 0
+  pub matched : {name buffer after : List ℕ} {r : MatchAnswer} → Matched b name buffer r after → (r ≡ matchings.Refused number 0) × (after ≡ buffer)
+  pub signed : {packet key : List ℕ} {r : SignAnswer} → Signed b packet key r → r ≡ signings.Refused number 0
+
+same-answers : {a b : List ℕ} → ((name buffer : List ℕ) → matchOutcome a name buffer ≡ matchOutcome b name buffer)
+    → ((packet key : List ℕ) → signAnswer a packet key ≡ signAnswer b packet key) → SameAnswers a b
+same-answers same-match same-sign =
+    record {
+      matched = λ {name} {buffer} {r = r} {q = q} c d.
+          let e = matched-is c ∙ same-match name buffer ∙ sym (matched-is d) in
+          (same-matching r q (ap (λ (o : Outcome). o .answer) e), ap (λ (o : Outcome). o .words) e);
+      signed = λ {packet} {key} {r} {q} c d. same-signing r q (signed-is c ∙ same-sign packet key ∙ sym (signed-is d));
+    }
+
+same-calls : {a b : List ℕ} → Alike a b → SameCalls a b
+same-calls s =
+    record {
+      judged = λ {r} {q} c d. same-verdict r q (judged-is c ∙ s .verdicts ∙ sym (judged-is d));
+      answers = same-answers (s .matched) (s .signed);
+    }
+
+refused-calls : {n : ℕ} {b : List ℕ} → AllRefuse n b → RefusedCalls n b
+unfolding matchRefused
+refused-calls s =
+    record {
+      judged = λ {r} c. same-verdict r _ (judged-is c ∙ s .verdicts);
+      matched = λ {name} {buffer} {r = r} c.
+          let e = matched-is c ∙ s .matched name buffer in
+          (same-matching r _ (ap (λ (o : Outcome). o .answer) e), ap (λ (o : Outcome). o .words) e);
+      signed = λ {packet} {key} {r} c. same-signing r _ (signed-is c ∙ s .signed packet key);
+    }
+
+-- taking out every unknown optional element changes no answer and no word. (What `bare` takes out is proved in lvs_spec/proofs/Gaps.antt)
+pub optional-changes-nothing : (b : List ℕ) (m : Model) → Bytes b → reading b ≡ describes m → SameCalls (bare b) b
+optional-changes-nothing b m bytes r = same-calls (bare-alike b m bytes r)
+
+-- nor does the text of RuleNames, nor do TagSymbols, in a model that stays accepted
+pub texts-change-nothing : {a b : List ℕ} {i j : ℕ} → Judged a (verdicts.Accepted i) → Judged b (verdicts.Accepted j)
+    → unnamed (modelOf a) ≡ unnamed (modelOf b) → SameAnswers a b
+texts-change-nothing {a} {b} {i} {j} c d e =
+    let s = accepted-same a b i j (sym (judged-is c)) (sym (judged-is d)) e in
+    same-answers (s .0) (s .1)
+
+-- a critical element x in any gap makes all three calls refuse with 2, unless the model becomes too long
+pub critical-refuses : (b b′ : List ℕ) (m : Model) (x : Element) → reading b ≡ describes m → meaning (x .type) ≡ critical → typeInRange (x .type) ≡ true
+    → Inserted x b b′ → length b′ ≤ maxModelBytes → RefusedCalls 2 b′
+critical-refuses b b′ m x r c t i l = refused-calls (critical-refused b b′ m x r c t i l)
+
+-- another version, after optional elements and before any bytes, makes all three refuse with 3, unless the model is too long
+pub other-version-refuses : (es : List Element) (v rest : List ℕ) → Each InRange es → Each (λ e. meaning (e .type) ≡ optional) es → length v ≡ 4
+    → ¬ (v ≡ thisVersion)
+    → let b : List ℕ = encode es ++ (elementBytes (record { type = type.Version; inside = v }) ++ rest) in length b ≤ maxModelBytes → RefusedCalls 3 b
+other-version-refuses es v rest f o n other l = refused-calls (version-refused es v rest f o n other l)
