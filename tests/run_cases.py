@@ -1,7 +1,7 @@
 #!/usr/bin/env python3
-"""Runs lvs_cases and lvs_check on the run cases of document 01 and compares every line with what the papers say.
+"""Runs lvs_cases and lvs_check on the run cases and compares every line with what the format says.
 
-tests/cases/NAME.py builds cases of the driver, each with the line that it must get, by reasoning from the papers and not by running
+tests/cases/NAME.py builds cases of the driver, each with the line that it must get, by reasoning from the format and not by running
 anything. Their bytes and lines are stored beside it, NAME.in and NAME.out, for other checkers to be compared with: `--store` writes
 them anew, and a plain run refuses them where they differ. checker.py has whole runs of lvs_check, driver.py of lvs_cases.
 
@@ -115,12 +115,12 @@ def example_is_document_01s():
     parts = (crate / "data/model.lvs", model), (crate / "stdin", given), (crate / "stdout", expected.encode())
     different = [file.name for file, contents in parts if file.read_bytes() != contents]
     if different:
-        print(f"crates/lvs_check: not document 01's example: {', '.join(different)}")
+        print(f"crates/lvs_check: not the format's example: {', '.join(different)}")
     return len(different)
 
 
 def check_uris():
-    """tools/name.py, and the example that is made with it: 003's tutorial."""
+    """tools/name.py, and the example that is made with it: the LVS tutorial's."""
     uris, tutorial = importlib.import_module("uris"), importlib.import_module("document_003")
     name = importlib.import_module("name")  # tools/name.py, which build.py brings
     wrong = [uri for uri, data in uris.NAMES if name.name(uri) != bytes.fromhex(data)]

@@ -6,7 +6,7 @@ usage: compare.py [CASES [SEED]]
 CASES cases (default 100,000) in batches of 20,000, one seed each, beginning with SEED (default 1). In each batch
 - lvs_cases must print the reference's line for every case;
 - lvs_check must print the reference's lines for the first signing cases, given the model as its file;
-- demand 3: the cases of gap_cases must get their lines.
+- the cases of gap_cases (optional and critical elements in gaps, other versions) must get their lines.
 A difference is printed with its seed and index, and `gen_cases SEED 1 INDEX` writes that case alone. The last lines say how often each
 answer came up.
 """

@@ -150,7 +150,7 @@ def component_uri(data):
 
 
 def request(packet, key):
-    """One request of lvs_check, from two names in bytes: the mark, and each name behind its 2-byte length."""
+    """One request of lvs_check, from two names in bytes: the mark, and each name after its 2-byte length."""
     return b"MK" + b"".join(len(n).to_bytes(2, "big") + n for n in (packet, key))
 
 

@@ -5,7 +5,7 @@ usage: speed.py [WORD..]    only the rows whose name has one of the words; none:
 
 A case is run many times by both programs. What reading and printing it costs is taken off: the same run with a model of the same length
 whose first byte is wrong, which both refuse at once. Instructions are counted by valgrind --tool=callgrind. The ratio of the times is
-the median over several turns, in each of which both programs run one after the other; its least and largest value stand behind it. `a
+the median over several turns, in each of which both programs run one after the other; its least and largest value stand after it. `a
 byte` is our instructions for each byte of the model.
 
 Below these stand the walks alone: the instructions inside `lvs_walk::walk` and inside the reference's `walk_from`, without the verdict, the

@@ -1,10 +1,10 @@
 #!/usr/bin/env python3
-"""Names that a `use` line brings in and nothing below it says.
+"""Unused imports in the crates' .antt and .rt files.
 
 usage: unused.py [--remove]
 
-Looks at every .antt and .rt file under crates/, by text: a name counts as said where it stands as a word outside `use` lines and
-comments; an operator where all its parts do. Prints what is unused, and fails if anything is; --remove takes it out.
+Works on the text: a name counts as used where it occurs as a word outside of `use` lines and comments; an operator where all its parts
+do. Prints each file with its unused imports, and fails if there are any; --remove takes them out.
 """
 import pathlib
 import re
@@ -24,7 +24,7 @@ def said(name, text):
 
 
 def pruned(line, text):
-    """The line without its unused names, or None where none is left; and those names."""
+    """The line without its unused imports, or None where none is left; and those imports."""
     if match := LISTED.match(line):
         names = [name.strip() for name in match["names"].split(",")]
         used = [name for name in names if said(name.split(" as ")[-1], text)]
@@ -36,7 +36,7 @@ def pruned(line, text):
 
 
 def prune(path, remove):
-    """How many unused names a file has."""
+    """How many unused imports a file has."""
     lines = path.read_text(encoding="utf-8").split("\n")
     mark = COMMENT[path.suffix]
     text = "\n".join(line.split(mark)[0] for line in lines if not re.match(r"(ghost )?use ", line))
@@ -58,7 +58,7 @@ def main():
     if sys.argv[1:] and not remove:
         sys.exit(__doc__)
     count = sum(prune(path, remove) for path in sorted((ROOT / "crates").rglob("*")) if path.suffix in COMMENT)
-    print(f"{count} unused names{' removed' if remove and count else ''}")
+    print(f"{count} unused imports{' removed' if remove and count else ''}")
     sys.exit(1 if count and not remove else 0)
 
 

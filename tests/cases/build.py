@@ -1,11 +1,11 @@
-"""Models, names and cases in bytes, written the way document 01 describes them. Nothing is checked here: faults are wanted too."""
+"""Models, names and cases in bytes, as docs/format.md describes them. Nothing is checked here: faults are wanted too."""
 import pathlib
 import sys
 
 sys.path.append(str(pathlib.Path(__file__).resolve().parents[2] / "tools"))
 from name import element, name as path, number, request, shortest_integer  # path: a name from its URI
 
-# types of elements (source document 000)
+# types of elements (docs/format.md, 3.1)
 NAME, GENERIC = 0x07, 0x08
 VALUE, TAG, NODE_ID, FN_ID, IDENTIFIER = 0x21, 0x23, 0x25, 0x27, 0x29
 CALL, ARGUMENT, OPTION, CONSTRAINT = 0x31, 0x33, 0x41, 0x43
@@ -96,7 +96,7 @@ def model(*nodes, start=0, patterns=0, version=GOOD_VERSION, behind=b""):
 
 
 def padded(short, size):
-    """A model with an optional element behind its last, so that it has `size` bytes."""
+    """A model with an optional element after its last, so that it has `size` bytes."""
     return short + element(0x80, bytes(size - len(short) - 4))
 
 
@@ -154,7 +154,7 @@ OLD = [4294967295 - i for i in range(256)]  # what a buffer of 256 words holds b
 
 
 def matched(at, *bound, behind=()):
-    """The line of a match: its node, then (Tag, start, length) of each bound Tag, all other words 0, and the words behind the first 256."""
+    """The line of a match: its node, then (Tag, start, length) of each bound Tag, all other words 0, and the words after the first 256."""
     words = [0] * 256
     for n, start, length in bound:
         words[2 * n - 2 : 2 * n] = start, length

@@ -34,7 +34,7 @@ def models():
 
 def answers():
     example = request(SLASH_A, SLASH_A) + request(SLASH_A, SLASH_B) + request(SLASH_A, bytes.fromhex("0701"))
-    yield "document 01's example", B, example, "model 2 nodes\n1 allowed 1 1\n2 not allowed\n3 refused 25\n"
+    yield "the format's example", B, example, "model 2 nodes\n1 allowed 1 1\n2 not allowed\n3 refused 25\n"
     yield "no request", B, b"", HEAD
     yield "names of no bytes", B, request(b"", b"") + request(SLASH_A, b""), HEAD + "1 refused 22\n2 refused 25\n"
     longest = name("x" * 1016)
@@ -54,7 +54,7 @@ def answers():
 
 def broken():
     for size in range(1, len(GOOD)):
-        yield f"cut behind {size} bytes", B, GOOD[:size], HEAD + "1 broken\n"
+        yield f"cut after {size} bytes", B, GOOD[:size], HEAD + "1 broken\n"
     yield "the second request cut", B, GOOD + GOOD[:-1], HEAD + FIRST + "2 broken\n"
     for mark in ("0000", "4d4d", "4b4d", "4d00", "004b", "6d6b"):
         yield f"mark {mark}", B, bytes.fromhex(mark) + names(SLASH_A, SLASH_A) + GOOD, HEAD + "1 broken\n"
@@ -67,7 +67,7 @@ def broken():
         yield f"a packet name of {length} bytes", B, b"\x4d\x4b" + name_field + names(b"", SLASH_A)[2:] + GOOD, HEAD + "1 broken\n"
         yield f"a key name of {length} bytes", B, b"\x4d\x4b" + names(SLASH_A, b"")[:-2] + tail + GOOD, HEAD + "1 broken\n"
     # a broken request ends the program, whatever follows
-    yield "a good request behind a broken one", B, GOOD + b"\x00\x00" + GOOD, HEAD + FIRST + "2 broken\n"
+    yield "a good request after a broken one", B, GOOD + b"\x00\x00" + GOOD, HEAD + FIRST + "2 broken\n"
 
 
 def last():
@@ -75,7 +75,7 @@ def last():
     lines = HEAD + "".join(f"{k} allowed 1 1\n" for k in range(1, 65536))
     yield "65,535 requests", B, GOOD * 65535, lines
     yield "65,536 requests", B, GOOD * 65536, lines
-    yield "a wrong mark behind 65,535 requests", B, GOOD * 65535 + b"\x00", lines
+    yield "a wrong mark after 65,535 requests", B, GOOD * 65535 + b"\x00", lines
     cut = HEAD + "".join(f"{k} allowed 1 1\n" for k in range(1, 65535)) + "65535 broken\n"
     yield "the 65,535th request cut", B, GOOD * 65534 + GOOD[:-1], cut
 

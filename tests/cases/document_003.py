@@ -1,4 +1,5 @@
-"""Source document 003: the three checks of its quick example and the ten of its tutorial, on models encoded by hand.
+"""Light VerSec's own documentation (the team's source document 003): the three checks of its quick example and the ten of its
+tutorial, on models encoded by hand.
 
 Each occurrence of a temporary pattern has a Tag of its own, as 000 says. What 003 prints as True is "allowed" here, with the nodes at
 which the two rules end; False is "not allowed".
@@ -57,7 +58,7 @@ TUTORIAL_CHECKS = (
 
 
 def patterns():
-    """003's examples of patterns and Constraints."""
+    """Its examples of patterns and Constraints."""
     key_pattern = tree(["ndn", (1,), "KEY", (2,), ()])  # /"ndn"/user/"KEY"/key_id
     yield "/ndn/xinyu/KEY/1", match(key_pattern, path("/ndn/xinyu/KEY/1"), OLD), matched(4, (1, 7, 7), (2, 19, 3))
     yield "/ndn/xinyu/key/1", match(key_pattern, path("/ndn/xinyu/key/1"), OLD), kept("no match")

@@ -12,7 +12,7 @@ def runs():
     yield "no case", b"", ""
     for of in (GOOD, WORDS, sign(B, SLASH_A, SLASH_A)):
         for size in range(1, len(of), max(1, len(of) // 40)):
-            yield f"{of[:1]} cut behind {size} bytes", GOOD + of[:size], LINE + "broken\n"
+            yield f"{of[:1]} cut after {size} bytes", GOOD + of[:size], LINE + "broken\n"
         yield f"{of[:1]} without its last byte", GOOD + of[:-1], LINE + "broken\n"
     for letter in (b"W", b"v", b"\x00", b"\n"):
         yield f"letter {letter}", GOOD + letter + GOOD[1:] + GOOD, LINE + "broken\n"

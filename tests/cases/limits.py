@@ -1,4 +1,4 @@
-"""Document 01's limits: the largest that is accepted and the smallest that is refused, of each; integers of each size."""
+"""The limits (docs/format.md, 11): the largest that is accepted and the smallest that is refused, of each; integers of each size."""
 from bench import A, B
 from build import *
 

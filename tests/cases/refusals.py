@@ -143,7 +143,7 @@ def with_faults(**at):
 
 
 def two_faults():
-    """The lower number wins, whichever stands first, and the node is its own; but 3 outranks any fault behind Version.
+    """The lower number wins, whichever stands first, and the node is its own; but 3 outranks any fault after Version.
 
     1 is long, so it is tried with fewer others.
     """
@@ -170,10 +170,10 @@ def one_rule_twice():
 
 
 def version_first():
-    """3 is decided as soon as Version is read: no fault behind it counts, and each before it or in it does."""
+    """3 is decided as soon as Version is read: no fault after it counts, and each before it or in it does."""
     other = element(VERSION, bytes.fromhex("00010000"))
-    yield "nothing behind Version", verdict(other), "refused 3 0"
-    yield "no element behind Version", verdict(other + b"\x00\xff"), "refused 3 0"
+    yield "nothing after Version", verdict(other), "refused 3 0"
+    yield "no element after Version", verdict(other + b"\x00\xff"), "refused 3 0"
     yield "a good Version and nothing", verdict(element(VERSION, bytes.fromhex("00011000"))), "refused 2 0"
     yield "an optional element before Version", verdict(bytes.fromhex("8000") + other), "refused 3 0"
     yield "a critical one before Version", verdict(bytes.fromhex("8100") + other), "refused 2 0"
@@ -211,10 +211,10 @@ def malformed():
         ("a Node with two NodeIds", model(node(0, node_id(0)))),
         ("a Node with two Parents", model(node(0, parent(0), parent(0)))),
         ("a Parent before the NodeId", model(element(NODE, parent(0), node_id(0)))),
-        ("a Parent behind a RuleName", first(rule_name("#a"), parent(0))),
-        ("a ValueEdge behind a PatternEdge", first(pattern_edge(1, 1), value_edge(1, "v"))),
-        ("a PatternEdge behind a signer", first(signer(0), pattern_edge(1, 1))),
-        ("a RuleName behind an edge", first(value_edge(1, "v"), rule_name("#a"))),
+        ("a Parent after a RuleName", first(rule_name("#a"), parent(0))),
+        ("a ValueEdge after a PatternEdge", first(pattern_edge(1, 1), value_edge(1, "v"))),
+        ("a PatternEdge after a signer", first(signer(0), pattern_edge(1, 1))),
+        ("a RuleName after an edge", first(value_edge(1, "v"), rule_name("#a"))),
         ("a Node in a Node", first(node(1))),
         ("a ValueEdge without Value", first(element(VALUE_EDGE, edge[0]))),
         ("a ValueEdge without destination", first(element(VALUE_EDGE, value("v")))),
@@ -234,7 +234,7 @@ def malformed():
         ("a TagSymbol without Tag", model(node(0), behind=element(SYMBOL, element(IDENTIFIER, b"a")))),
         ("a Value with nothing", first(value_edge(1, b""))),
         ("a Value with two components", first(value_edge(1, component("a") + component("b")))),
-        ("a Value with an optional element behind", first(value_edge(1, component("a") + bytes.fromhex("8000")))),
+        ("a Value with an optional element after it", first(value_edge(1, component("a") + bytes.fromhex("8000")))),
         ("a component of type 65,536", first(value_edge(1, component("a", 65536)))),
         ("a component of type 0", first(value_edge(1, component("a", 0)))),
         ("a component that is cut", first(value_edge(1, bytes.fromhex("080261")))),
@@ -295,8 +295,8 @@ def names():
     for what, data in (
         ("no bytes", b""),
         ("another type", element(8, component("a"))),
-        ("bytes behind it", path("/a") + b"\x00"),
-        ("a second name behind it", path("/a") * 2),
+        ("bytes after it", path("/a") + b"\x00"),
+        ("a second name after it", path("/a") * 2),
         ("a byte missing", path("/a")[:-1]),
         ("a component that is cut", element(NAME, b"\x08\x02a")),
         ("a component of type 0", name(component("a", 0))),

@@ -17,7 +17,8 @@ use Rattle.tlv.specs.Fields.{insides}
 use Rattle.lvs_spec.specs.Verdict.{Verdict, unreadable, describes, reading, judge, verdict}
 use Rattle.lvs_spec.specs.Names.{Component, badName, goodName, nameReading, packetName, keyName}
 use Rattle.lvs_spec.specs.Walk.{Match, packetMatches, pairs}
-use Rattle.lvs_spec.specs.Answers.{MatchAnswer, SignAnswer, plain, words, boundCount, matchRefused, matchFound, matchWalked, matchRoom, matchName, matchIn, matchOutcome, pairFound, pairWalked, signNames, signIn, signAnswer}
+use Rattle.lvs_spec.specs.Answers.{MatchAnswer, plain, words, boundCount, matchRefused, matchFound, matchWalked, matchRoom, matchName, matchIn, matchOutcome}
+use Rattle.lvs_spec.specs.Answers.{SignAnswer, pairFound, pairWalked, signNames, signIn, signAnswer}
 use Rattle.lvs_spec.proofs.Rules.{judge-few}
 use Rattle.lvs_spec.proofs.Usable.{accepted-usable, refused-unusable}
 use Rattle.lvs_spec.proofs.Lists.{clash}

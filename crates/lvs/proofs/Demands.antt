@@ -33,7 +33,7 @@ use Rattle.lvs_spec.proofs.Signing.{SignedBy, sign-allowed, sign-some, sign-non
 use Rattle.lvs_spec.proofs.Buffer.{refused-keeps, no-match-keeps, answer-by-length}
 use Rattle.lvs_spec.proofs.Unnamed.{accepted-same}
 use Rattle.lvs_spec.proofs.Demand3.{bare-alike, critical-refused, version-refused}
-use Rattle.lvs.specs.Readings.{verdictOf, matchAnswerOf, signAnswerOf}
+use Rattle.lvs.specs.Answers.{verdictOf, matchAnswerOf, signAnswerOf}
 use Rattle.lvs.specs.declared.Verdict.{Verdict}
 use Rattle.lvs.specs.declared.Verdict.the-variants as verdicts
 use Rattle.lvs.specs.declared.MatchAnswer.{MatchAnswer}

@@ -2,7 +2,7 @@
 use mathlib.Core.Path.{_≡_, refl, sym, ap, _∙_}
 use Rattle.lvs_spec.specs.Verdict.{Verdict as Judgement}
 use Rattle.lvs_spec.specs.Answers.{MatchAnswer as Matching, SignAnswer as Signing}
-use Rattle.lvs.specs.Readings.{verdictOf, matchAnswerOf, signAnswerOf}
+use Rattle.lvs.specs.Answers.{verdictOf, matchAnswerOf, signAnswerOf}
 use Rattle.lvs.specs.declared.Verdict.{Verdict}
 use Rattle.lvs.specs.declared.Verdict.the-variants as verdicts
 use Rattle.lvs.specs.declared.MatchAnswer.{MatchAnswer}

@@ -2,7 +2,7 @@
 ghost use mathlib.Core.Path.{_≡_};
 ghost use Rattle.lvs_spec.specs.Verdict.{verdict};
 ghost use Rattle.lvs_spec.specs.Answers.{matchOutcome, signAnswer};
-ghost use Rattle.lvs.specs.Readings.{verdictOf, matchAnswerOf, signAnswerOf};
+ghost use Rattle.lvs.specs.Answers.{verdictOf, matchAnswerOf, signAnswerOf};
 use lvs_bindings::SLOT_WORDS;
 use lvs_edges::nodes::PLACE_WORDS;
 use lvs_grammar::Reading;
@@ -39,7 +39,7 @@ pub enum SignAnswer {
 pub fn judge_model(model: &[u8]) -> Verdict
     ensures { λ r. ⌜ verdictOf r ≡ verdict (now (model .entry)) ⌝ }
 {
-    match lvs_grammar::read_model(model) {
+    match lvs_grammar::check_grammar(model) {
         Reading::TooLong => Verdict::Refused { number: 1, node: 0 },
         Reading::Malformed => Verdict::Refused { number: 2, node: 0 },
         Reading::OtherVersion => Verdict::Refused { number: 3, node: 0 },

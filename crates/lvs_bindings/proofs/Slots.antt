@@ -11,7 +11,8 @@ use lib.ListN.{length, getD, set, take, drop, length-drop, length-set, drop-of-l
 use lib.Seq.{take-all, set-out, set-set, set-getD}
 use Rattle.lvs_spec.specs.Limits.{maxTag}
 use Rattle.lvs_spec.specs.Walk.{Bindings, bound, bindTag}
-use Rattle.lvs_bindings.specs.Slots.{Room, SlotOf, textFrom, bindingAt, binding, bindingsOf, hasWords, slotAt, boundWords, boundTag, clearedWords, without}
+use Rattle.lvs_bindings.specs.Slots.{Room, SlotOf, textFrom, bindingAt, binding, bindingsOf}
+use Rattle.lvs_bindings.specs.Slots.{hasWords, slotAt, boundWords, boundTag, clearedWords, without}
 use Rattle.lvs_bindings.specs.declared.Slot.{Slot}
 
 -- ---- the text
@@ -171,7 +172,8 @@ module _ {words : List ℕ} (room : Room words) (packet key : List ℕ) where
   slot-bound zero = refl
   slot-bound (suc i) = go (hasWords (suc i)) refl
     where
-      go : (t : Bool) → hasWords (suc i) ≡ t → binding packet key (slotAt words (suc i) .start) (slotAt words (suc i) .size) ≡ getD (bindingsOf packet key words) i none
+      go : (t : Bool) → hasWords (suc i) ≡ t
+          → binding packet key (slotAt words (suc i) .start) (slotAt words (suc i) .size) ≡ getD (bindingsOf packet key words) i none
       go true h =
           let e : suc i - 1 ≡ i = omega arith in
           rw (h, slotAt) (rw e (sym (getD-bindings packet key i words)))
@@ -199,7 +201,8 @@ module _ {words : List ℕ} (room : Room words) (packet key : List ℕ) where
         go zero f t h = refl
         go (suc i) f true h =
             let e : suc i - 1 ≡ i = omega arith in
-            rw (h, boundWords) (rw (e, f) (set-bindings packet key i words p n ∙ ap (set (bindingsOf packet key words) i) (binding-some packet key p n some-bytes)))
+            let bound-there = ap (set (bindingsOf packet key words) i) (binding-some packet key p n some-bytes) in
+            rw (h, boundWords) (rw (e, f) (set-bindings packet key i words p n ∙ bound-there))
         go (suc i) f false h = rw (h, boundWords) (rw f (sym (set-out (bindingsOf packet key words) i _ (omega (arith, all-bindings, no-words-past i h)))))
 
     pub bound-back : without (boundTag tag) (bindTag (bindingsOf packet key words) tag (bindingAt packet key p n)) ≡ bindingsOf packet key words

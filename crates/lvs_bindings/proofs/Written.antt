@@ -106,7 +106,8 @@ module _ {name slots before buffer : List ℕ} {bound i : ℕ} (W : Written name
       let l : length X ≡ slotWords = words-length name [] maxTag slots (all-slots .is) in
       let d : drop (i * 2) slots ≡ getD slots (i * 2) 0 ∷ getD slots (i * 2 + 1) 0 ∷ drop ((i + 1) * 2) slots = two in
       let c : (bound + b) + boundCount (bindingsOf name [] (drop ((i + 1) * 2) slots)) ≡ boundCount (bindingsOf name [] slots) =
-      omega (arith, W .counted, ap (λ (x : List ℕ). boundCount (bindingsOf name [] x)) d, count-cons name [] (getD slots (i * 2) 0) (getD slots (i * 2 + 1) 0) (bindingsOf name [] (drop ((i + 1) * 2) slots))) in
+      let n = count-cons name [] (getD slots (i * 2) 0) (getD slots (i * 2 + 1) 0) (bindingsOf name [] (drop ((i + 1) * 2) slots)) in
+      omega (arith, W .counted, ap (λ (x : List ℕ). boundCount (bindingsOf name [] x)) d, n) in
       record {
         room = omega arith;
         long = simp length-set (W .long);
@@ -134,13 +135,16 @@ module _ {name slots before buffer : List ℕ} {bound i : ℕ} (W : Written name
           let one : set (paste before 0 X (i * 2)) (i * 2) (getD X (i * 2) 0) ≡ paste before 0 X (suc (i * 2)) =
           ap (λ (k : ℕ). set (paste before 0 X (i * 2)) k (getD X (i * 2) 0)) (sym z) ∙ paste-suc before 0 X (i * 2) 0 (omega arith) (omega arith) in
           let two : set (paste before 0 X (suc (i * 2))) (i * 2 + 1) (getD X (suc (i * 2)) 0) ≡ paste before 0 X (suc (suc (i * 2))) =
-          ap (λ (k : ℕ). set (paste before 0 X (suc (i * 2))) k (getD X (suc (i * 2)) 0)) (sym y) ∙ paste-suc before 0 X (suc (i * 2)) 0 (omega arith) (omega arith) in
-          (λ j. set (set (W .copied j) (i * 2) (p j)) (i * 2 + 1) (q j)) ∙ ap (λ (b : List ℕ). set b (i * 2 + 1) (getD X (suc (i * 2)) 0)) one ∙ two ∙ ap (paste before 0 X) f
+          ap (λ (k : ℕ). set (paste before 0 X (suc (i * 2))) k (getD X (suc (i * 2)) 0)) (sym y) ∙
+          paste-suc before 0 X (suc (i * 2)) 0 (omega arith) (omega arith) in
+          (λ j. set (set (W .copied j) (i * 2) (p j)) (i * 2 + 1) (q j)) ∙
+          ap (λ (b : List ℕ). set b (i * 2 + 1) (getD X (suc (i * 2)) 0)) one ∙ two ∙ ap (paste before 0 X) f
 
   pub written-words : maxTag ≤ i → buffer ≡ words (bindingsOf name [] slots) ++ drop bindingWords before
   written-words h =
       let e : i ≡ maxTag = omega (arith, W .room) in
-      W .copied ∙ rw e (ap (λ (x : List ℕ). x ++ drop bindingWords before) (take-all bindingWords (words (bindingsOf name [] slots)) (omega (arith, words-length name [] maxTag slots (all-slots .is)))))
+      let all = take-all bindingWords (words (bindingsOf name [] slots)) (omega (arith, words-length name [] maxTag slots (all-slots .is))) in
+      W .copied ∙ rw e (ap (λ (x : List ℕ). x ++ drop bindingWords before) all)
 
   pub written-count : maxTag ≤ i → bound ≡ boundCount (bindingsOf name [] slots)
   unfolding bindingsOf boundCount

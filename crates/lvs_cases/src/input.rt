@@ -45,7 +45,7 @@ pub fn take(space: &mut Buffer, from: Input, part: &mut [u8]) -> Taken
     Taken { count, input }
 }
 
-// Reads on, once, where all is taken. At the end of the input nothing is read ahead then.
+// Reads once more where everything has been taken; at the end of the input that gives nothing.
 fn read_ahead(space: &mut Buffer, input: Input) -> Input
     requires { ⌜ input .end ≤ 65536 ⌝ }
     ensures { λ r. ⌜ r .end ≤ 65536 ⌝ }

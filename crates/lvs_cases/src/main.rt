@@ -27,7 +27,7 @@ const WORD_BYTES: usize = 4096;
 // For what is read ahead, for a model, and for lines that are not written yet.
 type Buffer = [u8; 65536];
 
-// Where input and output stand behind a case, and whether it was a whole one.
+// Where input and output stand after a case, and whether it was a whole one.
 struct Turn {
     is_whole: bool,
     input: Input,
@@ -56,7 +56,7 @@ fn answer_input(space: &mut Buffer, model: &mut [u8], out: &mut Buffer) {
     output::flush(out, used);
 }
 
-// Nothing says that the input ends, so the loop counts its turns down, from a number that no run uses up.
+// Nothing bounds the input, so the loop counts its turns down, from a number that no run exhausts.
 fn answer_cases(space: &mut Buffer, model: &mut [u8], out: &mut Buffer) -> usize
     ensures { λ r. ⌜ r ≤ 65536 ⌝ }
 {

@@ -1,10 +1,10 @@
-// Standard output, gathered in a buffer that is lent; `used` of its bytes are not written yet.
+// Standard output through a lent buffer, of which `used` bytes are not written yet.
 ghost use Prim.Native.Nat.{_≤_, _<_};
 ghost use lib.ListN.{length};
 use crate::Buffer;
 use libc::STDOUT_FILENO;
 
-// Puts text behind what is there, and answers how much is used then.
+// Appends text, and answers how much is used then.
 pub fn put(out: &mut Buffer, used: usize, text: &[u8]) -> usize
     requires { ⌜ used ≤ 65536 ⌝ }
     ensures { λ r. ⌜ r ≤ 65536 ⌝ }

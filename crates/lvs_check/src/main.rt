@@ -1,7 +1,7 @@
-// Document 01's program: may this key sign this packet, by the model in `model.lvs`?
+// Answers signing requests by the model in `model.lvs` (docs/format.md, 10).
 //
 // A request on standard input is the mark 4D 4B, then a 2-byte length (high byte first) and the packet name, then such a length and the
-// key name. Each gets one line. Nothing is read ahead, so an answer stands as soon as its request does.
+// key name. Each gets one line. Nothing is read ahead, so that an answer is written as soon as its request is complete.
 ghost use Prim.Native.Nat.{_≤_};
 ghost use Rattle.io.specs.Counts.{Counts};
 use libc::STDIN_FILENO;
@@ -20,7 +20,7 @@ const MARK_FIRST: u8 = 0x4D;
 
 const MARK_SECOND: u8 = 0x4B;
 
-// What stands where a request may begin.
+// What was read where a request may begin.
 enum Mark {
     Right,
     Wrong,

@@ -49,7 +49,8 @@ module _ {s : List ℕ} {at : ℕ} (inv : Gathered listed (over argumentFrom) s 
   argument-none st = the-first (each-stop argumentFrom st)
 
 -- the first argument of a call; where there is none, nothing
-first-argument : (s : Bindings) (xs : List (List ℕ)) → (bind (first (map (argumentIn s) (map argumentOf xs))) λ a. a) ≡ argumentIn s (argumentOf (firstOr [] xs))
+first-argument : (s : Bindings) (xs : List (List ℕ))
+    → (bind (first (map (argumentIn s) (map argumentOf xs))) λ a. a) ≡ argumentIn s (argumentOf (firstOr [] xs))
 unfolding argumentIn argumentOf bound eachCut
 first-argument s [] = rw (cuts-end [] element-nil)
 first-argument s (x ∷ xs) = refl

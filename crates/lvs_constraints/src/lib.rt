@@ -147,7 +147,8 @@ fn call_holds<'a>(
 ) -> bool
     requires { ⌜ Room (now slots) ⌝ }
     requires { ⌜ Alone (now c) ⌝ }
-    ensures { λ r. ⌜ r ≡ callHolds (bindingsOf (now (packet .entry)) (now (key .entry)) (now (slots .entry))) (componentOf (now (c .entry))) (callOf (now (s .entry))) ⌝ }
+    ensures { λ r. ⌜ r ≡ callHolds (bindingsOf (now (packet .entry)) (now (key .entry)) (now (slots .entry))) (componentOf (now (c .entry)))
+        (callOf (now (s .entry))) ⌝ }
 {
     let name = tlv::inside_of(s, FN_ID);
     let p = name.start;
@@ -200,7 +201,8 @@ fn option_holds<'a>(
 ) -> bool
     requires { ⌜ Room (now slots) ⌝ }
     requires { ⌜ Alone (now c) ⌝ }
-    ensures { λ r. ⌜ r ≡ optionHolds (bindingsOf (now (packet .entry)) (now (key .entry)) (now (slots .entry))) (componentOf (now (c .entry))) (optionOf (now (s .entry))) ⌝ }
+    ensures { λ r. ⌜ r ≡ optionHolds (bindingsOf (now (packet .entry)) (now (key .entry)) (now (slots .entry))) (componentOf (now (c .entry)))
+        (optionOf (now (s .entry))) ⌝ }
 {
     let mut place = Place { at: 0 };
     loop {
@@ -236,7 +238,8 @@ fn constraint_holds<'a>(
 ) -> bool
     requires { ⌜ Room (now slots) ⌝ }
     requires { ⌜ Alone (now c) ⌝ }
-    ensures { λ r. ⌜ r ≡ constraintHolds (bindingsOf (now (packet .entry)) (now (key .entry)) (now (slots .entry))) (componentOf (now (c .entry))) (constraintOf (now (s .entry))) ⌝ }
+    ensures { λ r. ⌜ r ≡ constraintHolds (bindingsOf (now (packet .entry)) (now (key .entry)) (now (slots .entry))) (componentOf (now (c .entry)))
+        (constraintOf (now (s .entry))) ⌝ }
 {
     let mut place = Place { at: 0 };
     loop {

@@ -46,7 +46,8 @@ other-type p q e = let r : _≡_ {A = Bool} false true = sym p ∙ ap inBody e �
 pub body-first : (s : List ℕ) → BodyFrom s 0
 body-first s = record { within = omega arith; edges-are = refl; signers-are = refl }
 
-pub body-next : {s : List ℕ} {at t start stop : ℕ} {n : Place} {r : Bool} → BodyFrom s at → Step s at t start stop n → r ≡ inBody t → r ≡ false → BodyFrom s (n .at)
+pub body-next : {s : List ℕ} {at t start stop : ℕ} {n : Place} {r : Bool} → BodyFrom s at → Step s at t start stop n → r ≡ inBody t
+    → r ≡ false → BodyFrom s (n .at)
 unfolding fileEdges inBody
 body-next inv st p q =
     record {

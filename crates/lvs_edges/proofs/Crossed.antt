@@ -112,7 +112,8 @@ module _ {packet key s c slots : List ℕ} {at : ℕ} {f : PatternFields} {w : S
           }
 
     -- the Tag is bound, and t says whether to an equal component
-    module _ (taken : w .size ≡ 0 → ⊥) {text : List ℕ} {t : Bool} (text-is : text ≡ textFrom packet key (w .start)) (h : t ≡ same (componentOf text) (componentOf c)) where
+    module _ (taken : w .size ≡ 0 → ⊥) {text : List ℕ} {t : Bool} (text-is : text ≡ textFrom packet key (w .start))
+        (h : t ≡ same (componentOf text) (componentOf c)) where
       now-bound : bound β (f .tag) ≡ some (bindingAt packet key (w .start) (w .size))
       now-bound = is-bound room packet key S taken
 

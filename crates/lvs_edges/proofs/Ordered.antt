@@ -232,9 +232,11 @@ node-edges (suc n) x h =
     let R = row (wellFormedBy n) node (order node) (cuts x) h in
     let es = R .elements in
     let values : map (edgeOf false) (valuesIn es) ≡ map Edge.value (map valueEdgeOf (insides type.ValueEdge x)) =
-    map-map Edge.value valueEdgeOf (valuesIn es) ∙ ap (λ l. map Edge.value (map valueEdgeOf l)) (sym (insides-row x es type.ValueEdge (R .cut-is))) in
+    map-map Edge.value valueEdgeOf (valuesIn es) ∙
+    ap (λ l. map Edge.value (map valueEdgeOf l)) (sym (insides-row x es type.ValueEdge (R .cut-is))) in
     let patterns : map (edgeOf true) (patternsIn es) ≡ map Edge.pattern (map patternEdgeOf (insides type.PatternEdge x)) =
-    map-map Edge.pattern patternEdgeOf (patternsIn es) ∙ ap (λ l. map Edge.pattern (map patternEdgeOf l)) (sym (insides-row x es type.PatternEdge (R .cut-is))) in
+    map-map Edge.pattern patternEdgeOf (patternsIn es) ∙
+    ap (λ l. map Edge.pattern (map patternEdgeOf l)) (sym (insides-row x es type.PatternEdge (R .cut-is))) in
     ap (eachCut edgeFrom) (R .cut-is) ∙ eachCut-nexts edgeFrom es ∙ row-edges (wellFormedBy n) node (R .ordered) refl ∙ (λ i. values i ++ patterns i)
 
 empty-edges : fileEdges [] ≡ edges (nodeOf [])
@@ -246,4 +248,5 @@ pub well-ordered : (b : List ℕ) → wellFormed b ≡ true → (v : ℕ) → fi
 unfolding wellFormed wellFormedBy nodeInside
 well-ordered b h v =
     let R = row (wellFormedBy 6) model (order model) (cuts b) h in
-    rw (insides-row b (R .elements) type.Node (R .cut-is)) (row-nodes (wellFormedBy 6) model (λ x. fileEdges x ≡ edges (nodeOf x)) empty-edges (node-edges 6) (R .ordered) v)
+    rw (insides-row b (R .elements) type.Node (R .cut-is))
+    (row-nodes (wellFormedBy 6) model (λ x. fileEdges x ≡ edges (nodeOf x)) empty-edges (node-edges 6) (R .ordered) v)

@@ -42,7 +42,8 @@ module _ (places : List ℕ) (n x y : ℕ) where
   part-here : n < maxNodes → length places ≡ placeWords → partAt written n ≡ record { start = x; end = y }
   unfolding partAt
   part-here h l =
-      let a : getD written (n * 2) 0 ≡ x = getD-set-other (set places (n * 2) x) (n * 2 + 1) (n * 2) y 0 (λ e. omega arith) ∙ getD-set-same places (n * 2) x 0 (omega arith) in
+      let a : getD written (n * 2) 0 ≡ x =
+      getD-set-other (set places (n * 2) x) (n * 2 + 1) (n * 2) y 0 (λ e. omega arith) ∙ getD-set-same places (n * 2) x 0 (omega arith) in
       let b : getD written (n * 2 + 1) 0 ≡ y = getD-set-same (set places (n * 2) x) (n * 2 + 1) y 0 (simp length-set (omega arith)) in
       rw (lt-ltb n maxNodes h, a, b)
 
@@ -52,7 +53,8 @@ module _ (places : List ℕ) (n x y : ℕ) where
       let a : getD written (v * 2) 0 ≡ getD places (v * 2) 0 =
       getD-set-other (set places (n * 2) x) (n * 2 + 1) (v * 2) y 0 (λ q. omega arith) ∙ getD-set-other places (n * 2) (v * 2) x 0 (λ q. e (omega arith)) in
       let b : getD written (v * 2 + 1) 0 ≡ getD places (v * 2 + 1) 0 =
-      getD-set-other (set places (n * 2) x) (n * 2 + 1) (v * 2 + 1) y 0 (λ q. e (omega arith)) ∙ getD-set-other places (n * 2) (v * 2 + 1) x 0 (λ q. omega arith) in
+      getD-set-other (set places (n * 2) x) (n * 2 + 1) (v * 2 + 1) y 0 (λ q. e (omega arith)) ∙
+      getD-set-other places (n * 2) (v * 2 + 1) x 0 (λ q. omega arith) in
       rw (a, b)
 
 pub part-out : (places : List ℕ) (v : ℕ) → maxNodes ≤ v → nothing ≡ partAt places v
@@ -120,12 +122,15 @@ module _ {model places : List ℕ} {n at : ℕ} (F : Filled model places n at) w
             empty = λ v l. part-other places n (start + k) stop v (λ q. omega arith) ∙ F .empty v (omega arith);
           }
         where
-          body-at : (v : ℕ) → v < n + 1 → length (insides type.Node model) ≤ maxNodes → getD (insides type.Node model) n [] ≡ take (stop - start) (drop start model)
+          body-at : (v : ℕ) → v < n + 1 → length (insides type.Node model) ≤ maxNodes
+              → getD (insides type.Node model) n [] ≡ take (stop - start) (drop start model)
               → BodyPart model v (partAt (written places n (start + k) stop) v)
           body-at v l small h = go (eqb v n) refl
             where
               go : (b : Bool) → eqb v n ≡ b → BodyPart model v (partAt (written places n (start + k) stop) v)
-              go true q = rw (eqb-true v n q, part-here places n (start + k) stop (omega (arith, more)) (F .room)) (body-part W (step .order) (step .within) h B)
+              go true q =
+                  rw (eqb-true v n q, part-here places n (start + k) stop (omega (arith, more)) (F .room))
+                  (body-part W (step .order) (step .within) h B)
               go false q = let z = eqb-false v n q in rw (part-other places n (start + k) stop v z) (F .bodies v (less z))
                 where
                   less : (v ≡ n → ⊥) → v < n

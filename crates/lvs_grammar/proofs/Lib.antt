@@ -2,4 +2,4 @@ pub mod Apart
 pub mod States
 pub mod PlainBytes
 pub mod Turns
-pub mod Readings
+pub mod Answers

@@ -38,14 +38,14 @@ abbrev more : Option ℕ → Option ℕ
 more none = none
 more (some n) = some (suc n)
 
--- how many items are behind an element of type t
+-- how many items are done with after an element of type t
 abbrev counted : List Item → ℕ → Option ℕ
 counted [] t = none
 counted (once ts ∷ items) t = guard (member t ts) 1
 counted (maybe ts ∷ items) t = cond (member t ts) (some 1) (more (counted items t))
 counted (many ts ∷ items) t = cond (member t ts) (some 0) (more (counted items t))
 
--- the items left behind that many
+-- the items left after that many
 abbrev left : List Item → Option ℕ → Option (List Item)
 left items none = none
 left items (some n) = some (drop n items)
@@ -102,7 +102,7 @@ within q lo hi next = cond (leb lo q && leb q hi) (some next) none
 abbrev fitsAt : List Item → ℕ → ℕ → ℕ → ℕ → ℕ → Bool
 fitsAt items t lo hi next q = alike (within q lo hi next) (forward q (counted (drop q items) t))
 
--- an element of type t may stand in the states from lo to hi, and next is the state behind it
+-- an element of type t may stand in the states from lo to hi, and next is the state after it
 abbrev pub fits : List Item → ℕ → ℕ → ℕ → ℕ → Bool
 fits items t lo hi next = ltb hi (length items) && allBelow (length items) (fitsAt items t lo hi next)
 
@@ -114,7 +114,7 @@ slotted-left k q lo hi next = go (leb lo q && leb q hi) refl
     go true e = rw e
     go false e = rw e
 
--- in a state of the order, and behind all of them
+-- in a state of the order, and past all of them
 slot-within : (k : Kind) (t lo hi next q : ℕ) → fitsAt (order k) t lo hi next q ≡ true → leftBehind k (slotted q lo hi next) ≡ step (drop q (order k)) t
 slot-within k t lo hi next q h =
     slotted-left k q lo hi next
@@ -142,7 +142,7 @@ slot-any k t lo hi next q h = go (ltb q (length (order k))) refl
         let b : hi < length (order k) = ltb-true _ _ (f .0) in
         slot-behind k t lo hi next q (omega arith) l
 
--- THE LAW OF A SLOT
+-- the law of a slot
 pub slot-step : (k : Kind) {t lo hi next q typ : ℕ} {r : Next} → typ ≡ t → Slotted q lo hi next r → fits (order k) t lo hi next ≡ true
     → leftBehind k r ≡ step (drop q (order k)) typ
 slot-step k {t} {lo} {hi} {next} {q} e f h = rw (e, f .is) (slot-any k t lo hi next q h)
@@ -165,7 +165,7 @@ endsAt items n q = same (leb n q) (final (drop q items))
 abbrev pub ends : List Item → ℕ → Bool
 ends items n = leb n (length items) && allBelow (length items) (endsAt items n)
 
--- THE LAW OF AN END
+-- the law of an end
 pub end-final : (k : Kind) (n q : ℕ) → ends (order k) n ≡ true → leb n q ≡ final (drop q (order k))
 unfolding final
 end-final k n q h = go (ltb q (length (order k))) refl

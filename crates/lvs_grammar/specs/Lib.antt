@@ -1,3 +1,3 @@
 pub mod Types
 pub mod States
-pub mod Readings
+pub mod Answers

@@ -1,4 +1,4 @@
--- A state of the code: how many items of a container's order are behind. Definitions only.
+-- A state of the code: how many items of a container's order are done with. Definitions only.
 use Prim.Native.Nat.{ℕ}
 use mathlib.Core.Path.{_≡_}
 use mathlib.Core.Bool.{cond, _&&_}
@@ -15,7 +15,7 @@ abbrev pub leftBehind : Kind → Next → Option (List Item)
 leftBehind k Refused = none
 leftBehind k (State q) = some (drop q (order k))
 
--- an element that may stand in the states from lo to hi, and the state behind it
+-- an element that may stand in the states from lo to hi, and the state after it
 unfoldable pub slotted : ℕ → ℕ → ℕ → ℕ → Next
 slotted q lo hi next = cond (leb lo q && leb q hi) (State next) Refused
 

@@ -1,4 +1,4 @@
-// Plain bytes that are well formed (document 01, "Elements").
+// Plain bytes that are well formed (docs/format.md, 3.3).
 use super::types::Kind;
 use super::types::Leaf;
 use tlv::IntegerRead;
@@ -33,7 +33,7 @@ fn is_integer(s: &[u8]) -> bool
     }
 }
 
-// One name component and nothing behind it.
+// One name component and nothing after it.
 fn one_component(s: &[u8]) -> bool
     ensures { λ r. ⌜ r ≡ leaves.oneComponent (element (now (s .entry))) ⌝ }
 {

@@ -1,4 +1,4 @@
-// Refusals 1 to 3 of document 01: whether a model is too long, of another version, malformed, or readable.
+// Refusals 1 to 3 (docs/format.md, 5): whether a model is too long, of another version, malformed, or readable.
 mod leaves;
 mod order;
 mod types;
@@ -18,7 +18,7 @@ use types::meaning_of;
 ghost use mathlib.Core.Path.{_≡_};
 ghost use Rattle.lvs_spec.specs.WellFormed.{insideOk, wellFormedBy, isOtherVersion, otherVersion};
 ghost use Rattle.lvs_grammar.specs.Types.{kindOf, knownOf};
-ghost use Rattle.lvs_grammar.specs.Readings.{readingOf};
+ghost use Rattle.lvs_grammar.specs.Answers.{readingOf};
 
 // The only version that is read: 0x00011000.
 const THIS_VERSION: [u8; 4] = [0x00, 0x01, 0x10, 0x00];
@@ -33,8 +33,8 @@ pub enum Reading {
     Readable,
 }
 
-// Each test covers the whole model before the next begins, save that another version outranks any fault behind Version.
-pub fn read_model(model: &[u8]) -> Reading
+// Each test covers the whole model before the next begins, save that another version outranks any fault after Version.
+pub fn check_grammar(model: &[u8]) -> Reading
     ensures { λ r. ⌜ r ≡ readingOf (now (model .entry)) ⌝ }
 {
     if MAX_MODEL_BYTES < model.len() {

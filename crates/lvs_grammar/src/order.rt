@@ -1,4 +1,4 @@
-// The order inside each container (document 01, "Elements"). A state counts the items of the order that are behind.
+// The order inside each container (docs/format.md, 3.4). A state counts the items of the order that are done with.
 use super::types::Kind;
 use lvs_spec::types;
 ghost use mathlib.Core.Path.{_≡_};
@@ -7,7 +7,7 @@ ghost use Rattle.lvs_spec.specs.Grammar.{order, step, final, model, node, value
 ghost use Rattle.lvs_grammar.specs.Types.{kindOf};
 ghost use Rattle.lvs_grammar.specs.States.{leftBehind, Slotted};
 
-// Whether an element may stand in a state, and the state behind it.
+// Whether an element may stand in a state, and the state after it.
 pub enum Next {
     Refused,
     State(u8),

@@ -1,4 +1,4 @@
-// What an element is: its type number alone decides (document 01, "Elements").
+// What an element is: its type number alone decides (docs/format.md, 3.1 and 3.2).
 use lvs_spec::types;
 ghost use mathlib.Core.Path.{_≡_};
 ghost use Rattle.lvs_spec.specs.Grammar.{meaning, unknown};
@@ -62,7 +62,7 @@ pub(crate) fn meaning_of(typ: u32) -> Meaning
     }
 }
 
-// An unknown type that is even and at least 32 is optional, any other is critical.
+// An unknown type that is even and at least 32 (decimal) is optional, any other is critical.
 fn unknown_type(typ: u32) -> Meaning
     ensures { λ r. ⌜ meaningOf r ≡ unknown typ ⌝ }
 {

@@ -7,7 +7,8 @@ use mathlib.Core.Option.{Option, none, some, Option·some-injective}
 use Rattle.tlv.specs.Lists.{each, when, first}
 use Rattle.lvs_spec.specs.Model.{Model}
 use Rattle.lvs_spec.specs.Names.{Component}
-use Rattle.lvs_spec.specs.Walk.{Match, Pair, Event, looked, found, continue, answers, noBindings, begin, packetTrace, packetMatches, keyTrace, lists, signed, signTrace, pairTrace, pairs}
+use Rattle.lvs_spec.specs.Walk.{Match, Pair, Event, looked, found, continue, answers, noBindings, begin, packetTrace, packetMatches}
+use Rattle.lvs_spec.specs.Walk.{keyTrace, lists, signed, signTrace, pairTrace, pairs}
 use Rattle.lvs_spec.specs.Answers.{SignAnswer, pairFound}
 use Rattle.lvs_spec.proofs.Lists.{clash}
 use Rattle.lvs_names.specs.Rows.{rowFrom}
@@ -130,7 +131,9 @@ pair-answer packet key (At p k) after (some z) e = go (Option·some-injective _ 
     go h = λ i. SignAnswer.allowed (ap (λ (y : Hit). y .packet) h i) (ap (λ (y : Hit). y .last .node) h i)
 
 pub pair-first : (m : Model) (packet key : List ℕ) (from kfrom v : ℕ) {before after : List ℕ} {r : Found} → v ≡ m .start → before ≡ clear
-    → First packet key (hits m key (Packet v kfrom) (rowFor packet key (Packet v kfrom) from) (record { node = v; bindings = bindingsOf packet key before })) before r after
+    → First packet key
+    (hits m key (Packet v kfrom) (rowFor packet key (Packet v kfrom) from) (record { node = v; bindings = bindingsOf packet key before }))
+    before r after
     → FirstPair m (rowFrom packet from) (rowFrom key kfrom) r
 unfolding hits rowFor pairs pairTrace packetTrace begin firstFound
 pair-first m packet key from kfrom v {before} {after} {r} start-is none-is f =

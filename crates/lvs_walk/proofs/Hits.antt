@@ -1,20 +1,20 @@
 -- The trace of a walk for a goal: where no component is left, and one edge at a time. Assumes nothing.
 use Prim.Native.Nat.{ℕ}
 use mathlib.Core.Path.{_≡_, refl, sym, ap, subst, _∙_}
-use mathlib.Core.Bool.{true, false}
+use mathlib.Core.Bool.{Bool, true, false}
 use mathlib.Core.List.{List, [], _∷_, _++_, append-nil}
 use mathlib.Core.Option.{Option, none, some}
-use Rattle.tlv.specs.Lists.{each, onward, first}
+use Rattle.tlv.specs.Lists.{each, onward, first, when}
 use Rattle.lvs_spec.specs.Model.{Model, Edge, edges, nodeAt}
-use Rattle.lvs_spec.specs.Walk.{Binding, Match, Event, looked, continue, foundIn, answers, begin, cross, trace, keyTrace, lists}
+use Rattle.lvs_spec.specs.Walk.{Binding, Match, Event, looked, found, continue, foundIn, answers, begin, cross, trace, keyTrace, lists}
 use Rattle.lvs_spec.proofs.Lists.{orElse, first-append, each-append, each-each}
 use Rattle.lvs_spec.proofs.Trace.{each-same}
 use Rattle.lvs_bindings.specs.Slots.{Room, bindingsOf}
-use Rattle.lvs_walk.specs.Search.{Hit, listed, worth, hits, firstFound, rowFor, Started, First}
+use Rattle.lvs_walk.specs.Search.{Hit, listed, worth, hits, firstFound, rowFor, foundIf, Started, hitOf, First}
 use Rattle.lvs_walk.specs.declared.Goal.{Goal}
 use Rattle.lvs_walk.specs.declared.Goal.the-variants.{Match as AnyMatch, Packet, Key}
 use Rattle.lvs_walk.specs.declared.Found.{Found}
-use Rattle.lvs_walk.specs.declared.Found.the-variants.{Nothing, At}
+use Rattle.lvs_walk.specs.declared.Found.the-variants.{At}
 
 -- ---- the first answer of a trace
 
@@ -73,17 +73,20 @@ module _ (m : Model) (packet key : List ℕ) (goal : Goal) (v at : ℕ) (slots :
   unfolding worth firstFound
   end-match g = record { answer = sym (worth-is ∙ rw g); kept = λ z. refl; room = room }
 
+  -- a key match is worth an answer at a signer
+  pub end-key : {p : ℕ} → goal ≡ Key p → {r : Found} → r ≡ foundIf (lists m p v) p v
+      → First packet key (hits m key goal (rowFor packet key goal at) here) slots r slots
+  unfolding worth listed firstFound foundIf
+  end-key {p} g e =
+      record { answer = ap (λ x. hitOf packet key x slots) e ∙ go (lists m p v) ∙ sym (worth-is ∙ rw g); kept = λ z. refl; room = room }
+    where
+      go : (t : Bool) → hitOf packet key (foundIf t p v) slots ≡ firstFound (when t (found (record { packet = p; last = here })))
+      go true = refl
+      go false = refl
+
   -- a packet match is worth the walk of the key from its bindings
   pub end-packet : {start from : ℕ} → goal ≡ Packet start from → Started m goal → {q : Found} {after : List ℕ}
       → First packet key (hits m key (Key v) (rowFor packet key (Key v) from) (record { node = start; bindings = bindingsOf packet key slots })) slots q after
       → First packet key (hits m key goal (rowFor packet key goal at) here) slots q after
   unfolding worth hits rowFor keyTrace begin
   end-packet g s f = record { answer = f .answer ∙ sym (worth-is ∙ rw (g, starts m g s)); kept = f .kept; room = f .room }
-
-  pub end-key : {p : ℕ} → goal ≡ Key p → lists m p v ≡ true → First packet key (hits m key goal (rowFor packet key goal at) here) slots (At p v) slots
-  unfolding worth listed firstFound
-  end-key g l = record { answer = sym (worth-is ∙ rw (g, l)); kept = λ z. refl; room = room }
-
-  pub end-key-not : {p : ℕ} → goal ≡ Key p → lists m p v ≡ false → First packet key (hits m key goal (rowFor packet key goal at) here) slots Nothing slots
-  unfolding worth listed firstFound
-  end-key-not g l = record { answer = sym (worth-is ∙ rw (g, l)); kept = λ z. refl; room = room }

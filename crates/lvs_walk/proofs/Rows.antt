@@ -66,7 +66,9 @@ module _ (packet key : List ℕ) (goal : Goal) where
       rw (place-is at inside, text-is at inside) (go goal f)
     where
       go : (g : Goal) → RowStep (nameFor packet key g) at stop
-          → rowFor packet key g at ≡ record { component = record { start = at; size = stop - at; content = componentOf (drop at (nameFor packet key g)) } } ∷ rowFor packet key g stop
+          → rowFor packet key g at ≡
+          record { component = record { start = at; size = stop - at; content = componentOf (drop at (nameFor packet key g)) } } ∷
+          rowFor packet key g stop
       go AnyMatch f = rw (f .is)
       go (Packet s k) f = rw (f .is)
       go (Key p) f = rw (f .is)
@@ -89,7 +91,8 @@ pub record Component (packet key : List ℕ) (goal : Goal) (at stop text : ℕ) 
   pub stands : Stands packet key text c
   pub row-is : rowFor packet key goal at ≡ bindingAt packet key text (length c) ∷ rowFor packet key goal stop
 
-module _ (packet key : List ℕ) (goal : Goal) (at : ℕ) {name : List ℕ} (name-is : name ≡ nameFor packet key goal) {r : ComponentRead} (read : ComponentAt name at r) where
+module _ (packet key : List ℕ) (goal : Goal) (at : ℕ) {name : List ℕ} (name-is : name ≡ nameFor packet key goal) {r : ComponentRead}
+    (read : ComponentAt name at r) where
   pub has-component : {stop : ℕ} → r ≡ AComponent stop → RowStep (nameFor packet key goal) at stop
   has-component {stop} e = rw name-is at (subst (ComponentAt name at) e read)
 
@@ -103,7 +106,9 @@ module _ (packet key : List ℕ) (goal : Goal) (at : ℕ) {name c : List ℕ} {s
   c-there = rw name-is at c-is
 
   size-is : length c ≡ stop - at
-  size-is = ap length c-there ∙ length-take-le (stop - at) (drop at (nameFor packet key goal)) (omega (arith, f .within, length-drop at (nameFor packet key goal)))
+  size-is =
+      let l = length-drop at (nameFor packet key goal) in
+      ap length c-there ∙ length-take-le (stop - at) (drop at (nameFor packet key goal)) (omega (arith, f .within, l))
 
   pub component : Component packet key goal at stop text c
   component =

@@ -2,6 +2,7 @@
 -- match at a signer that the packet's node lists. Hits are read off a trace, as matches and pairs are.
 use Prim.Native.Nat.{ℕ, _+_, _≤_}
 use mathlib.Core.Path.{_≡_}
+use mathlib.Core.Bool.{Bool, cond}
 use mathlib.Core.List.{List, [], _∷_}
 use mathlib.Core.Option.{Option, none, some}
 use lib.ListN.{length}
@@ -58,6 +59,10 @@ unfoldable pub textPlace : List ℕ → Goal → ℕ → ℕ
 textPlace packet AnyMatch at = at
 textPlace packet (Packet start from) at = at
 textPlace packet (Key p) at = length packet + at
+
+-- two nodes, where a test passes
+unfoldable pub foundIf : Bool → ℕ → ℕ → Found
+foundIf t p k = cond t (At p k) Nothing
 
 -- ---- what a walk asks and promises
 

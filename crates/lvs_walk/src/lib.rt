@@ -15,10 +15,11 @@ ghost use Prim.Native.Nat.{_+_, _≤_};
 ghost use lib.ListN.{length};
 ghost use Rattle.lvs_spec.specs.Limits.{maxNameBytes};
 ghost use Rattle.lvs_spec.specs.Model.{modelOf};
+ghost use Rattle.lvs_spec.specs.Walk.{lists};
 ghost use Rattle.lvs_names.specs.Rows.{rowFrom};
 ghost use Rattle.lvs_bindings.specs.Slots.{bindingsOf};
 ghost use Rattle.lvs_edges.specs.Nodes.{NodesAt};
-ghost use Rattle.lvs_walk.specs.Search.{hits, nameFor, rowFor, textPlace, Within, Started, First};
+ghost use Rattle.lvs_walk.specs.Search.{hits, nameFor, rowFor, textPlace, foundIf, Within, Started, First};
 ghost use Rattle.lvs_walk.specs.Calls.{clear, FirstMatch, FirstPair};
 
 // What is looked for: any match; a packet match with a key match after it, which starts at a node and at a place of the key's name; a key
@@ -64,6 +65,17 @@ fn text_place(packet: &[u8], goal: Goal, at: usize) -> usize
     }
 }
 
+// A key match is a hit where the packet's node lists its node.
+fn if_listed(model: &[u8], places: &[u32; PLACE_WORDS], packet: u64, node: u64) -> Found
+    requires { ⌜ NodesAt (now model) (now places) ⌝ }
+    ensures { λ r. ⌜ r ≡ foundIf (lists (modelOf (now (model .entry))) packet node) packet node ⌝ }
+{
+    if lvs_edges::nodes::lists_node(model, places, packet, node) {
+        return Found::At(packet, node);
+    }
+    Found::Nothing
+}
+
 // The first hit of the walk from `node` on with the components from `at` on. On a hit the slots hold its bindings; else no Tag is bound that was
 // not before.
 fn walk<'a>(
@@ -87,21 +99,11 @@ fn walk<'a>(
     let ComponentRead::Component(end) = lvs_names::component_at(name, at) else {
         return match goal {
             Goal::Match => Found::At(node, node),
-            Goal::Packet { start, key_from } => walk(
-                model,
-                places,
-                packet,
-                key,
-                Goal::Key(node),
-                start,
-                key_from,
-                slots,
-            ),
-            Goal::Key(p) => if lvs_edges::nodes::lists_node(model, places, p, node) {
-                Found::At(p, node)
-            } else {
-                Found::Nothing
-            },
+            Goal::Packet { start, key_from } => {
+                let then = Goal::Key(node);
+                walk(model, places, packet, key, then, start, key_from, slots)
+            }
+            Goal::Key(p) => if_listed(model, places, p, node),
         };
     };
     let c = &name[at..end];
@@ -112,28 +114,23 @@ fn walk<'a>(
     let edges = &model[a..b];
     let mut from = 0;
     loop {
-        match lvs_edges::edge_from(edges, from) {
-            EdgeRead::End => {
-                return Found::Nothing;
+        let EdgeRead::Edge(pattern, p, q, next) = lvs_edges::edge_from(edges, from) else {
+            return Found::Nothing;
+        };
+        from = next;
+        let crossing = lvs_edges::cross(&edges[p..q], pattern, packet, key, text, c, slots);
+        if let Crossing::Open(dest, bound) = crossing {
+            let r = walk(model, places, packet, key, goal, dest, end, slots);
+            if let Found::At(_, _) = r {
+                return r;
             }
-            EdgeRead::Edge(pattern, p, q, next) => {
-                from = next;
-                match lvs_edges::cross(&edges[p..q], pattern, packet, key, text, c, slots) {
-                    Crossing::Shut => {}
-                    Crossing::Open(dest, bound) => {
-                        let r = walk(model, places, packet, key, goal, dest, end, slots);
-                        if let Found::At(_, _) = r {
-                            return r;
-                        }
-                        lvs_bindings::unbind_tag(slots, bound);
-                    }
-                }
-            }
+            lvs_bindings::unbind_tag(slots, bound);
         }
     }
 }
 
-// The first match of the name whose components start at `from`; its bindings are left in the slots.
+// The first match of the name whose components start at `from`; its bindings are left in the slots. Where there is none, what the slots hold
+// is left open.
 pub fn find_match(
     model: &[u8],
     places: &[u32; PLACE_WORDS],

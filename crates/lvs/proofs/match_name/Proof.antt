@@ -7,7 +7,7 @@ use Rattle.lvs_spec.specs.Answers.{matchRefused}
 use Rattle.lvs_names.specs.Answers.{nameRead}
 use Rattle.lvs_names.specs.Rows.{rowFrom}
 use Rattle.lvs_walk.proofs.Answers.{found-none, found-match}
-use Rattle.lvs.specs.Readings.{verdictOf}
+use Rattle.lvs.specs.Answers.{verdictOf}
 use Rattle.lvs.proofs.Calls.{walkable, name-short, match-refused, match-bad-name, match-no-room, match-none, match-some}
 use Rattle.lvs.proofs.match_name.Statement.{statement}
 use Rattle.lvs.proofs.match_name.Tie as tie
@@ -52,7 +52,8 @@ find-match-requires c κs =
 
 write-words-requires : tie.Need-write-words-requires
 write-words-requires c κs =
-    (c .before .before .before .before .before .find-match .ensures .room, c .before .before .before .before .before .before .before .before .before .before .if1 .left)
+    let x = c .before .before .before .before .before in
+    (x .find-match .ensures .room, x .before .before .before .before .before .if1 .left)
 
 returns-3 : tie.Need-returns-3
 unfolding matchRefused
@@ -67,8 +68,9 @@ returns-4 : tie.Need-returns-4
 returns-4 c =
     let f = c .before .before .before .before .before .before .before .before .before in
     let a = began f .args in
-    sym (match-none (a .model .now) (a .name .now) (a .buffer .now) (accepted (judged f)) (good f) (c .before .before .before .before .before .before .before .if1 .left)
-    (found-none (c .before .before .find-match .ensures) (c .enum-told2 .given .1)))
+    let x = c .before .before in
+    sym (match-none (a .model .now) (a .name .now) (a .buffer .now) (accepted (judged f)) (good f) (x .before .before .before .before .before .if1 .left)
+    (found-none (x .find-match .ensures) (c .enum-told2 .given .1)))
 
 returns-5 : tie.Need-returns-5
 returns-5 c =

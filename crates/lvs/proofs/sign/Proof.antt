@@ -6,7 +6,7 @@ use Rattle.lvs_spec.specs.Names.{goodName, nameReading}
 use Rattle.lvs_names.specs.Answers.{nameRead}
 use Rattle.lvs_names.specs.Rows.{rowFrom}
 use Rattle.lvs_walk.proofs.Answers.{found-no-pair, found-pair}
-use Rattle.lvs.specs.Readings.{verdictOf}
+use Rattle.lvs.specs.Answers.{verdictOf}
 use Rattle.lvs.proofs.Calls.{walkable, name-short, sign-refused, sign-bad-packet, sign-bad-key, sign-walked}
 use Rattle.lvs.proofs.sign.Statement.{statement}
 use Rattle.lvs.proofs.sign.Tie as tie

@@ -15,7 +15,9 @@ part-result-end : tie.Need-part-result-end
 part-result-end c = search needs
 
 returns : tie.Need-returns
-returns c = to-end (c .before .before .args .packet .now) (c .before .before .args .at) ∙ text-packet (c .before .before .args .packet .now) (c .before .before .args .key .now) (c .before .before .args .at) (c .before .if1 .taken)
+returns c =
+    let a = c .before .before .args in
+    to-end (a .packet .now) (a .at) ∙ text-packet (a .packet .now) (a .key .now) (a .at) (c .before .if1 .taken)
 
 sub-k : tie.Need-sub-k
 sub-k c = search needs
@@ -30,7 +32,9 @@ part-result-end-2 : tie.Need-part-result-end-2
 part-result-end-2 c = search needs
 
 returns-2 : tie.Need-returns-2
-returns-2 c = to-end (c .before .before .before .args .key .now) _ ∙ text-key (c .before .before .before .args .packet .now) (c .before .before .before .args .key .now) (c .before .before .before .args .at) (c .before .before .if1 .left)
+returns-2 c =
+    let a = c .before .before .before .args in
+    to-end (a .key .now) _ ∙ text-key (a .packet .now) (a .key .now) (a .at) (c .before .before .if1 .left)
 
 sub-result-3 : tie.Need-sub-result-3
 sub-result-3 c = search needs
@@ -42,7 +46,9 @@ part-result-end-3 : tie.Need-part-result-end-3
 part-result-end-3 c = search needs
 
 returns-3 : tie.Need-returns-3
-returns-3 c = to-end (c .before .before .before .args .key .now) _ ∙ text-past (c .before .before .before .args .packet .now) (c .before .before .before .args .key .now) (c .before .before .before .args .at) (c .before .before .if1 .left) (c .before .if2 .left)
+returns-3 c =
+    let a = c .before .before .before .args in
+    to-end (a .key .now) _ ∙ text-past (a .packet .now) (a .key .now) (a .at) (c .before .before .if1 .left) (c .before .if2 .left)
 
 pub text-from-spec : {M : Type 1} → statement M
 text-from-spec =

@@ -1,7 +1,7 @@
 -- `lvs_walk::walk` meets its contract. It calls itself on the components that are left, and from a packet match on the key: that is the measure.
 -- The loop goes over the Node's edges; its invariant `Turn`: no edge so far has a hit, and the bindings are as they were. Assumes nothing.
 use Prim.Native.Nat.{ℕ, _+_, _-_, _<_}
-use mathlib.Core.Path.{_≡_, refl, sym, ap, _∙_}
+use mathlib.Core.Path.{_≡_, refl, ap}
 use mathlib.Core.List.{List, []}
 use native.Mathlib.Omega.{arith}
 use borrow.Author.Needs.{needs}
@@ -16,7 +16,7 @@ use Rattle.lvs_edges.proofs.Places.{body-of-part}
 use Rattle.lvs_walk.specs.Search.{nameFor, rowFor, Within}
 use Rattle.lvs_walk.specs.declared.Goal.{Goal}
 use Rattle.lvs_walk.proofs.Rows.{Component, name-short, has-component, no-component, component}
-use Rattle.lvs_walk.proofs.Hits.{end-match, end-packet, end-key, end-key-not}
+use Rattle.lvs_walk.proofs.Hits.{end-match, end-packet, end-key}
 use Rattle.lvs_walk.proofs.Turns.{Turn, searchAt, begun, ahead, turn-first, turn-none, edge-at, turn-shut, turn-back, turn-found}
 use Rattle.lvs_walk.proofs.walk.Reads as walk
 use Rattle.lvs_walk.proofs.walk.Kinds as walk-kinds
@@ -24,9 +24,9 @@ use Rattle.lvs_walk.proofs.+walk.Lts-walk as walk-lts
 use Rattle.lvs_bindings.proofs.unbind_tag.Reads as unbind-tag-reads
 use Rattle.lvs_edges.proofs.cross.Reads as cross-reads
 use Rattle.lvs_edges.proofs.edge_from.Reads as edge-from-reads
-use Rattle.lvs_edges.proofs.nodes.lists_node.Reads as lists-node-reads
 use Rattle.lvs_edges.proofs.nodes.node_part.Reads as node-part-reads
 use Rattle.lvs_names.proofs.component_at.Reads as component-at-reads
+use Rattle.lvs_walk.proofs.if_listed.Reads as if-listed-reads
 use Rattle.lvs_walk.proofs.name_for.Reads as name-for-reads
 use Rattle.lvs_walk.proofs.text_place.Reads as text-place-reads
 use Rattle.lvs_walk.proofs.+walk.{statement}
@@ -53,8 +53,8 @@ calls t = (
   component-at-reads.Learnt,
   walk-below t,
   walk.Post,
-  lists-node-reads.Asked,
-  lists-node-reads.Learnt,
+  if-listed-reads.Asked,
+  if-listed-reads.Learnt,
   text-place-reads.Asked,
   text-place-reads.Learnt,
   node-part-reads.Asked,
@@ -83,7 +83,8 @@ at N t = N (calls t) (walk-at t) walk.Post Inv μ
 abbrev start : (t : ℕ) → at walk-lts.After-component-at t → at walk-lts.Start t
 start t c = c .before .before .before .before .before
 
-within : (t : ℕ) (c : at walk-lts.Start t) → Within (c .args .model .now) (c .args .places .now) (c .args .packet .now) (c .args .key .now) (c .args .slots .now)
+within : (t : ℕ) (c : at walk-lts.Start t)
+    → Within (c .args .model .now) (c .args .places .now) (c .args .packet .now) (c .args .key .now) (c .args .slots .now)
 within t c = c .pre .1 .0
 
 -- no component is left
@@ -147,8 +148,8 @@ walk-requires t c κs =
     let g = ap (ahead (s .args .key .now)) (c .before .before .goal .given .1) in
     (omega (arith, s .pre .0, g), (within t s, tt))
 
-lists-node-requires : (t : ℕ) → at walk-lts.Need-lists-node-requires t
-lists-node-requires t c κs = within t (start t (c .before .before .before .before .before)) .nodes
+if-listed-requires : (t : ℕ) → at walk-lts.Need-if-listed-requires t
+if-listed-requires t c κs = within t (start t (c .before .before .before .before .before)) .nodes
 
 returns : (t : ℕ) → at walk-lts.Need-returns t
 returns t c =
@@ -167,17 +168,10 @@ returns-2 t c =
 
 returns-3 : (t : ℕ) → at walk-lts.Need-returns-3 t
 returns-3 t c =
-    let e = c .before .before .before .before .before in
+    let e = c .before .before .before .before in
     let s = start t (e .before .before) in
     end-key (modelOf (s .args .model .now)) (s .args .packet .now) (s .args .key .now) (s .args .goal) (s .args .node) (s .args .at) (s .args .slots .now)
-    (within t s .room) (ended t e) (c .before .before .before .goal2 .given .1) (sym (c .before .lists-node .ensures) ∙ c .if1 .taken)
-
-returns-4 : (t : ℕ) → at walk-lts.Need-returns-4 t
-returns-4 t c =
-    let e = c .before .before .before .before .before in
-    let s = start t (e .before .before) in
-    end-key-not (modelOf (s .args .model .now)) (s .args .packet .now) (s .args .key .now) (s .args .goal) (s .args .node) (s .args .at) (s .args .slots .now)
-    (within t s .room) (ended t e) (c .before .before .before .goal2 .given .1) (sym (c .before .lists-node .ensures) ∙ c .if1 .left)
+    (within t s .room) (ended t e) (c .before .before .goal2 .given .1) (c .if-listed .ensures)
 
 -- ---- the component and the Node
 
@@ -211,21 +205,27 @@ part-edges-end t c = body t c .within
 loop-holds : (t : ℕ) → at walk-lts.Need-loop-holds t
 loop-holds t c = turn-first _ (within t (start t (c .before .before .before .before .before .before .before)) .room) (body t (c .before) .edges-are)
 
-returns-5 : (t : ℕ) → at walk-lts.Need-returns-5 t
-returns-5 t c =
+returns-4 : (t : ℕ) → at walk-lts.Need-returns-4 t
+returns-4 t c =
     let l = c .before .before .before in
     let s = began t l in
     begun (s .args .model .now) (s .args .node) (s .args .slots .now) (here t (node t l .before))
     (turn-none (l .loop .inv) (c .before .before .edge-from .ensures) (c .enum-told3 .given .1))
 
 sub-cross : (t : ℕ) → at walk-lts.Need-sub-cross t
-sub-cross t c = edge-at (c .before .before .before .before .loop .inv) (c .before .before .before .edge-from .ensures) (c .before .pattern .given .1) .order
+sub-cross t c =
+    let read = c .before .before .before in
+    edge-at (read .before .loop .inv) (read .edge-from .ensures) (c .before .pattern .given .1) .order
 
 part-cross-start : (t : ℕ) → at walk-lts.Need-part-cross-start t
-part-cross-start t c = edge-at (c .before .before .before .before .loop .inv) (c .before .before .before .edge-from .ensures) (c .before .pattern .given .1) .order
+part-cross-start t c =
+    let read = c .before .before .before in
+    edge-at (read .before .loop .inv) (read .edge-from .ensures) (c .before .pattern .given .1) .order
 
 part-cross-end : (t : ℕ) → at walk-lts.Need-part-cross-end t
-part-cross-end t c = edge-at (c .before .before .before .before .loop .inv) (c .before .before .before .edge-from .ensures) (c .before .pattern .given .1) .within
+part-cross-end t c =
+    let read = c .before .before .before in
+    edge-at (read .before .loop .inv) (read .edge-from .ensures) (c .before .pattern .given .1) .within
 
 cross-requires : (t : ℕ) → at walk-lts.Need-cross-requires t
 cross-requires t c κs =
@@ -233,16 +233,16 @@ cross-requires t c κs =
     (l .loop .inv .room, here t (node t l .before) .stands)
 
 -- the edge is shut
-loop-less : (t : ℕ) → at walk-lts.Need-loop-less t
-loop-less t c =
+loop-less-2 : (t : ℕ) → at walk-lts.Need-loop-less-2 t
+loop-less-2 t c =
     let x = c .before .before in
     let e = edge-at (turn t x .loop .inv) (edge t x .before .before .edge-from .ensures) (edge t x .pattern .given .1) in
     omega (arith, e .moved, e .after)
 
-loop-again : (t : ℕ) → at walk-lts.Need-loop-again t
-loop-again t c =
+loop-again-2 : (t : ℕ) → at walk-lts.Need-loop-again-2 t
+loop-again-2 t c =
     let x = c .before .before in
-    turn-shut (turn t x .loop .inv) (edge t x .before .before .edge-from .ensures) (edge t x .pattern .given .1) (x .cross .ensures) (c .enum-told4 .given .1)
+    turn-shut (turn t x .loop .inv) (edge t x .before .before .edge-from .ensures) (edge t x .pattern .given .1) (x .cross .ensures) (c .enum-told6 .given .1)
 
 -- it leads on
 walk-requires-2 : (t : ℕ) → at walk-lts.Need-walk-requires-2 t
@@ -259,32 +259,32 @@ walk-requires-2 t c κs =
       ),
     )
 
-returns-6 : (t : ℕ) → at walk-lts.Need-returns-6 t
-returns-6 t c =
+returns-5 : (t : ℕ) → at walk-lts.Need-returns-5 t
+returns-5 t c =
     let x = c .before .before .before .before .before .before .before in
     let l = turn t x in
     let s = began t l in
     begun (s .args .model .now) (s .args .node) (s .args .slots .now) (here t (node t l .before))
     (turn-found (l .loop .inv) (edge t x .before .before .edge-from .ensures) (edge t x .pattern .given .1) (x .cross .ensures)
-    (c .before .before .before .before .before .dest .given .1) (c .before .before .walk2 .ensures) (c .enum-told5 .given .1))
+    (c .before .before .before .before .before .crossing .given .1) (c .before .before .walk2 .ensures) (c .enum-told4 .given .1))
 
 unbind-tag-requires : (t : ℕ) → at walk-lts.Need-unbind-tag-requires t
 unbind-tag-requires t c κs =
     let x = c .before .before .before .before .before .before .before .before in
-    rw (c .before .before .before .before .before .before .dest .given .1) at (x .cross .ensures .low)
+    rw (c .before .before .before .before .before .before .crossing .given .1) at (x .cross .ensures .low)
 
-loop-less-2 : (t : ℕ) → at walk-lts.Need-loop-less-2 t
-loop-less-2 t c =
+loop-less : (t : ℕ) → at walk-lts.Need-loop-less t
+loop-less t c =
     let x = c .before .before .before .before .before .before .before .before .before in
     let e = edge-at (turn t x .loop .inv) (edge t x .before .before .edge-from .ensures) (edge t x .pattern .given .1) in
     omega (arith, e .moved, e .after)
 
-loop-again-2 : (t : ℕ) → at walk-lts.Need-loop-again-2 t
-loop-again-2 t c =
+loop-again : (t : ℕ) → at walk-lts.Need-loop-again t
+loop-again t c =
     let x = c .before .before .before .before .before .before .before .before .before in
     turn-back (turn t x .loop .inv) (edge t x .before .before .edge-from .ensures) (edge t x .pattern .given .1) (x .cross .ensures)
-    (c .before .before .before .before .before .before .before .dest .given .1) (c .before .before .before .before .walk2 .ensures)
-    (c .before .before .enum-told6 .given .1) (c .unbind-tag .ensures)
+    (c .before .before .before .before .before .before .before .crossing .given .1) (c .before .before .before .before .walk2 .ensures)
+    (c .before .before .enum-told5 .given .1) (c .unbind-tag .ensures)
 
 pub +walk-spec : {M : Type 1} → statement M
 +walk-spec =
@@ -298,11 +298,10 @@ pub +walk-spec : {M : Type 1} → statement M
     (λ c. search needs)
     (walk-requires t)
     (λ c. search needs)
-    (lists-node-requires t)
+    (if-listed-requires t)
     (returns t)
     (returns-2 t)
     (returns-3 t)
-    (returns-4 t)
     (sub-c t)
     (part-c-start t)
     (part-c-end t)
@@ -314,20 +313,20 @@ pub +walk-spec : {M : Type 1} → statement M
     (loop-holds t)
     (λ c κs. search needs)
     (λ c. search needs)
-    (returns-5 t)
     (λ c. search needs)
+    (returns-4 t)
     (sub-cross t)
     (part-cross-start t)
     (part-cross-end t)
     (cross-requires t)
     (λ c. search needs)
+    (walk-requires-2 t)
+    (λ c. search needs)
+    (returns-5 t)
+    (λ c. search needs)
+    (unbind-tag-requires t)
     (loop-less t)
     (loop-again t)
     (λ c. search needs)
-    (walk-requires-2 t)
-    (λ c. search needs)
-    (returns-6 t)
-    (λ c. search needs)
-    (unbind-tag-requires t)
     (loop-less-2 t)
     (loop-again-2 t)

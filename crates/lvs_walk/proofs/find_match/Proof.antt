@@ -15,7 +15,8 @@ returns : tie.Need-returns
 unfolding modelOf
 returns c =
     let s = c .before .before .before .before .before .before in
-    match-first (modelOf (s .args .model .now)) (s .args .name .now) (s .args .from) _ (c .before .before .before .number-in .ensures) (s .pre .1 .1) (c .walk .ensures)
+    match-first (modelOf (s .args .model .now)) (s .args .name .now) (s .args .from) _ (c .before .before .before .number-in .ensures)
+    (s .pre .1 .1) (c .walk .ensures)
 
 pub find-match-spec : {M : Type 1} → statement M
 find-match-spec =

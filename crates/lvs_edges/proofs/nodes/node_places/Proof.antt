@@ -55,7 +55,8 @@ add-body c =
 cast-places : tie.Need-cast-places Inv μ
 cast-places c =
     let st = step (node c) in
-    omega (arith, body-low (turn (node c) .loop .inv .1) st (c .before .before .if1 .taken) (c .body-of .ensures), st .within, start (turn (node c)) .pre .0 .short)
+    let l = turn (node c) in
+    omega (arith, body-low (l .loop .inv .1) st (c .before .before .if1 .taken) (c .body-of .ensures), st .within, start l .pre .0 .short)
 
 mul-places : tie.Need-mul-places Inv μ
 mul-places c = omega (arith, index-low c)

@@ -1,4 +1,4 @@
--- `lvs_grammar::leaves::marked` meets its contract: the first byte is the mark, and the part behind it an identifier. Assumes nothing.
+-- `lvs_grammar::leaves::marked` meets its contract: the first byte is the mark, and the part after it an identifier. Assumes nothing.
 use borrow.Author.Needs.{needs}
 use mathlib.Core.Path.{sym, _∙_}
 use Rattle.lvs_grammar.proofs.PlainBytes.{marked-empty, marked-other, marked-rest}

@@ -1,11 +1,11 @@
--- `lvs_grammar::read_model` meets its contract: each test says which case of `readingOf` holds. Assumes nothing.
+-- `lvs_grammar::check_grammar` meets its contract: each test says which case of `readingOf` holds. Assumes nothing.
 use borrow.Author.Needs.{needs}
 use mathlib.Core.Path.{sym, _∙_}
 use borrow.Author.Tests.{lt-ltb, le-ltb}
 use Rattle.lvs_spec.specs.WellFormed.{tooLong, wellFormed}
-use Rattle.lvs_grammar.specs.Readings.{readingOf}
-use Rattle.lvs_grammar.proofs.read_model.Statement.{statement}
-use Rattle.lvs_grammar.proofs.read_model.Tie as tie
+use Rattle.lvs_grammar.specs.Answers.{readingOf}
+use Rattle.lvs_grammar.proofs.check_grammar.Statement.{statement}
+use Rattle.lvs_grammar.proofs.check_grammar.Tie as tie
 
 returns : tie.Need-returns
 unfolding readingOf tooLong
@@ -29,7 +29,7 @@ returns-4 : tie.Need-returns-4
 unfolding readingOf tooLong wellFormed
 returns-4 c = rw (le-ltb _ _ (c .before .before .before .before .if1 .left), sym (c .before .before .before .other-version .ensures) ∙ c .before .before .if2 .left, sym (c .before .well-formed .ensures) ∙ c .if3 .left)
 
-pub read-model-spec : {M : Type 1} → statement M
-read-model-spec =
+pub check-grammar-spec : {M : Type 1} → statement M
+check-grammar-spec =
     tie.close
     (tie.spec returns other-version-requires returns-2 well-formed-requires returns-3 returns-4)

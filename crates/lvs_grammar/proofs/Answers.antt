@@ -8,7 +8,7 @@ use Rattle.lvs_spec.specs.WellFormed.{tooLong, otherVersion, wellFormed}
 use Rattle.lvs_spec.specs.Verdict.{reading}
 use Rattle.lvs_grammar.specs.declared.Reading.{Reading}
 use Rattle.lvs_grammar.specs.declared.Reading.the-variants.{TooLong, OtherVersion, Malformed, Readable}
-use Rattle.lvs_grammar.specs.Readings.{readingOf, means}
+use Rattle.lvs_grammar.specs.Answers.{readingOf, means}
 
 reading-means : (b : List ℕ) → reading b ≡ means (readingOf b) b
 unfolding reading readingOf
@@ -20,7 +20,7 @@ reading-means b = go (tooLong b) (otherVersion b) (wellFormed b) refl refl refl
     go false false true p q r = rw (p, q, r, reading)
     go false false false p q r = rw (p, q, r, reading)
 
--- THE LAW FOR CALLERS: r is what the code answered, and a is the answer that the match found it to be
+-- the law for callers: r is what the code answered, and a is the answer that the match found it to be
 pub reading-is : (b : List ℕ) {r a : Reading} → r ≡ readingOf b → r ≡ a → reading b ≡ means a b
 reading-is b e f = subst (λ (x : Reading). reading b ≡ means x b) (sym e ∙ f) (reading-means b)
 

@@ -1,4 +1,4 @@
--- What the bytes of a model come to before rule 4 (document 01, "Refusal numbers"). Definitions only.
+-- What the bytes of a model come to before rule 4 (docs/format.md, 5). Definitions only.
 use mathlib.Core.Bool.{cond}
 use mathlib.Core.List.{List}
 use Prim.Native.Nat.{ℕ}
@@ -12,7 +12,7 @@ use Rattle.lvs_grammar.specs.declared.Reading.the-variants.{TooLong, Oth
 unfoldable pub readingOf : List ℕ → Reading
 readingOf b = cond (tooLong b) TooLong (cond (otherVersion b) OtherVersion (cond (wellFormed b) Readable Malformed))
 
--- each case in document 01's terms: refusal 1, refusal 3, refusal 2, or the model that the bytes describe
+-- each case in the format's terms: refusal 1, refusal 3, refusal 2, or the model that the bytes describe
 abbrev pub means : Reading → List ℕ → verdict.Reading
 means TooLong b = verdict.unreadable 1
 means OtherVersion b = verdict.unreadable 3
