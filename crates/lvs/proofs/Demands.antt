@@ -33,6 +33,7 @@ use Rattle.lvs_spec.proofs.Signing.{SignedBy, sign-allowed, sign-some, sign-non
 use Rattle.lvs_spec.proofs.Buffer.{refused-keeps, no-match-keeps, answer-by-length}
 use Rattle.lvs_spec.proofs.Unnamed.{accepted-same}
 use Rattle.lvs_spec.proofs.Demand3.{bare-alike, critical-refused, version-refused}
+use Rattle.lvs_spec.proofs.Optional.{optional-alike}
 use Rattle.lvs.specs.Answers.{verdictOf, matchAnswerOf, signAnswerOf}
 use Rattle.lvs.specs.declared.Verdict.{Verdict}
 use Rattle.lvs.specs.declared.Verdict.the-variants as verdicts
@@ -219,7 +220,12 @@ refused-calls s =
       signed = λ {packet} {key} {r} c. same-signing r _ (signed-is c ∙ s .signed packet key);
     }
 
--- taking out every unknown optional element changes no answer and no word. (What `bare` takes out is proved in lvs_spec/proofs/Gaps.antt)
+-- an optional element x in any gap changes no answer and no word, unless the model becomes too long
+pub optional-ignored : (b b′ : List ℕ) (m : Model) (x : Element) → Bytes b → Bytes b′ → reading b ≡ describes m → meaning (x .type) ≡ optional
+    → typeInRange (x .type) ≡ true → Inserted x b b′ → length b′ ≤ maxModelBytes → SameCalls b′ b
+optional-ignored b b′ m x bytes bytes′ r o t i l = same-calls (optional-alike b b′ m x bytes bytes′ r o t i l)
+
+-- nor does taking out every one. (That `bare` takes out these and nothing else is proved in lvs_spec/proofs/Gaps.antt)
 pub optional-changes-nothing : (b : List ℕ) (m : Model) → Bytes b → reading b ≡ describes m → SameCalls (bare b) b
 optional-changes-nothing b m bytes r = same-calls (bare-alike b m bytes r)
 
@@ -231,8 +237,8 @@ texts-change-nothing {a} {b} {i} {j} c d e =
     same-answers (s .0) (s .1)
 
 -- a critical element x in any gap makes all three calls refuse with 2, unless the model becomes too long
-pub critical-refuses : (b b′ : List ℕ) (m : Model) (x : Element) → reading b ≡ describes m → meaning (x .type) ≡ critical → typeInRange (x .type) ≡ true
-    → Inserted x b b′ → length b′ ≤ maxModelBytes → RefusedCalls 2 b′
+pub critical-refuses : (b b′ : List ℕ) (m : Model) (x : Element) → reading b ≡ describes m → meaning (x .type) ≡ critical
+    → typeInRange (x .type) ≡ true → Inserted x b b′ → length b′ ≤ maxModelBytes → RefusedCalls 2 b′
 critical-refuses b b′ m x r c t i l = refused-calls (critical-refused b b′ m x r c t i l)
 
 -- another version, after optional elements and before any bytes, makes all three refuse with 3, unless the model is too long
