@@ -1,4 +1,4 @@
--- Each case of an answer's enum, with document 01's numbers and values.
+-- Each case of an answer's enum, with the numbers and values of docs/format.md.
 use Rattle.lvs_spec.specs.Verdict.{Verdict as Judgement}
 use Rattle.lvs_spec.specs.Answers.{MatchAnswer as Matching, SignAnswer as Signing}
 use Rattle.lvs.specs.declared.Verdict.{Verdict}

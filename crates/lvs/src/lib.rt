@@ -16,7 +16,7 @@ const KEY_REFUSALS: u32 = 24;
 
 const SHORT_BUFFER: u32 = 27;
 
-// What a model is: accepted with its number of Nodes, or refused with a number of document 01 and a node index.
+// What a model is: accepted with its number of Nodes, or refused with a number of docs/format.md, 5, and a node index.
 pub enum Verdict {
     Accepted { nodes: u32 },
     Refused { number: u32, node: u32 },

@@ -1,4 +1,4 @@
-// The Constraints of a PatternEdge (document 01, "Names and the walk"), for any bytes.
+// The Constraints of a PatternEdge (docs/format.md, 7.3), for any bytes.
 //
 // A layer below the public calls: `requires` asks for the words of all Tags, which the walk's own array has, and
 // for a component that is cut out.

@@ -11,7 +11,7 @@ use Rattle.tlv.specs.Fields.{theInside, theInteger}
 use Rattle.lvs_spec.specs.Types as type
 use Rattle.lvs_spec.specs.Model.{componentOf, valueEdgeOf, patternEdgeOf, destination}
 use Rattle.lvs_spec.specs.Names.{same}
-use Rattle.lvs_spec.specs.Walk.{Binding, Bindings, Match, bound, bindTag, boundTo, constraintHolds, crosses, behind}
+use Rattle.lvs_spec.specs.Walk.{Binding, Bindings, Match, bound, bindTag, boundTo, constraintHolds, crosses, bindingsAfter}
 use Rattle.lvs_bindings.specs.Slots.{Room, SlotOf, textFrom, bindingAt, bindingsOf, boundWords, boundTag, without}
 use Rattle.lvs_bindings.specs.declared.Slot.{Slot}
 use Rattle.lvs_bindings.proofs.Slots.{to-end, unbound, is-bound, bound-most, bound-long, bound-bindings, bound-back}
@@ -36,7 +36,7 @@ and-cond false y = refl
 module _ (s c : List ℕ) {v : List ℕ} (v-is : v ≡ theInside type.Value s) {t : Bool} (h : t ≡ same (componentOf v) (componentOf c)) where
   value-leads : (β : Bindings) (b : Binding) → b .component .content ≡ componentOf c
       → leadsTo β b (edgeOf false s) ≡ cond t (some (record { node = theInteger type.NodeId s; bindings = β })) none
-  unfolding leadsTo edgeOf behind valueEdgeOf destination
+  unfolding leadsTo edgeOf bindingsAfter valueEdgeOf destination
   value-leads β b e = rw (← v-is, e, ← h) (led t (theInteger type.NodeId s) β)
 
   pub value-shut : t ≡ false → CrossedValue s c Shut
@@ -73,7 +73,7 @@ module _ {packet key s c slots : List ℕ} {at : ℕ} {f : PatternFields} {w : S
   -- whether the edge is crossed, and where it leads then
   pattern-leads : {t : Bool} → crosses β (componentOf c) (patternEdgeOf s) ≡ t
       → leadsTo β b (edgeOf true s) ≡ cond t (some (record { node = f .dest; bindings = bindTag β (f .tag) b })) none
-  unfolding leadsTo edgeOf behind patternEdgeOf destination bindingAt
+  unfolding leadsTo edgeOf bindingsAfter patternEdgeOf destination bindingAt
   pattern-leads {t} e = rw (stands .content, e, F .destination, F .tag-is) (led t (theInteger type.NodeId s) _)
 
   pattern-shut : crosses β (componentOf c) (patternEdgeOf s) ≡ false → Crossed packet key (edgeOf true s) b slots Shut slots

@@ -10,7 +10,7 @@ use Rattle.tlv.specs.Fields.{insides, theInteger}
 use Rattle.lvs_spec.specs.Limits.{maxTag}
 use Rattle.lvs_spec.specs.Types as type
 use Rattle.lvs_spec.specs.Model.{Edge, componentOf, destination}
-use Rattle.lvs_spec.specs.Walk.{Binding, Bindings, Match, behind}
+use Rattle.lvs_spec.specs.Walk.{Binding, Bindings, Match, bindingsAfter}
 use Rattle.lvs_names.specs.Contents.{Alone}
 use Rattle.lvs_bindings.specs.Slots.{Room, textFrom, bindingsOf, without}
 use Rattle.lvs_edges.specs.Edges.{edgeOf}
@@ -52,7 +52,7 @@ pub record FieldsOf (s : List ℕ) (f : PatternFields) : Type 0 where
 
 -- where an edge leads with the component of b, and the bindings there; nothing where it is not crossed
 unfoldable pub leadsTo : Bindings → Binding → Edge → Option Match
-leadsTo s b e = bind (behind s b e) λ t. some (record { node = destination e; bindings = t })
+leadsTo s b e = bind (bindingsAfter s b e) λ t. some (record { node = destination e; bindings = t })
 
 -- the match that a crossing stands for, with these bindings after it
 abbrev pub reached : Crossing → Bindings → Option Match

@@ -14,7 +14,7 @@ use Rattle.lvs_names.specs.declared.NameRead.the-variants.{Good, Refused
 use Rattle.lvs_names.specs.declared.Counted.{Counted}
 use Rattle.lvs_names.specs.declared.Counted.the-variants.{Components, Malformed}
 
--- a good name's components start at a place; a refused one has its number of document 01
+-- a good name's components start at a place; a refused one has its refusal number
 abbrev pub nameRead : List ℕ → NameRead → NameReading
 nameRead name (Good start) = goodName (rowFrom name start)
 nameRead name (Refused r) = badName r

@@ -1,6 +1,6 @@
-// Names and their components (document 01, "Names and the walk"), read at their places and never copied.
+// Names and their components (docs/format.md, 6), read at their places and never copied.
 //
-// A layer below the public calls: any bytes may be a name. `requires` asks that refusal numbers are ones of document 01, and for a component
+// A layer below the public calls: any bytes may be a name. `requires` asks that refusal numbers are ones of the format, and for a component
 // that is cut out.
 ghost use mathlib.Core.Path.{_≡_};
 ghost use Prim.Native.Nat.{_+_, _≤_};
@@ -18,7 +18,7 @@ const NAME: u32 = 7;
 pub enum NameRead {
     // The place of the first component.
     Good(usize),
-    // A refusal number of document 01.
+    // A refusal number.
     Refused(u32),
 }
 

@@ -1,4 +1,4 @@
--- The Parent of a destination, looked up in the list of all Parents, is the one that document 01's rule 11 asks for. Assumes nothing.
+-- The Parent of a destination, looked up in the list of all Parents, is the one that rule 11 asks for. Assumes nothing.
 use mathlib.Core.Path.{_≡_, refl, sym, _∙_}
 use mathlib.Core.Bool.{Bool, true, false, cond, not}
 use mathlib.Core.List.{List, [], _∷_, map}

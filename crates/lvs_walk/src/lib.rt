@@ -1,4 +1,4 @@
-// The walk of names through a model (document 01, "Names and the walk"): depth first, one edge and one component at a step.
+// The walk of names through a model (docs/format.md, 7): depth first, one edge and one component at a step.
 //
 // A layer below the public calls, which refuse what is too long before they come here: that, places that `node_places` has filled, and
 // slots in which nothing is bound at the start, is what `requires` asks.

@@ -1,4 +1,4 @@
--- Elements (document 01, "Elements"): a type, a length and that many bytes. Definitions only.
+-- Elements (docs/format.md, 2.2): a type, a length and that many bytes. Definitions only.
 use Prim.Native.Nat.{ℕ, zero, suc, _+_, _-_, _<_, _^_}
 use mathlib.Core.Path.{_≡_}
 use mathlib.Core.List.{List, [], _∷_, _++_}
@@ -8,7 +8,7 @@ use lib.Dec.{leb}
 use lib.ListN.{length, take, drop}
 use Rattle.tlv.specs.Number.{Num, unreadable, num, number, numberBytes}
 
--- `inside` is document 01's word for NDN's TLV-VALUE; Value is an element of LVS
+-- `inside` is NDN's TLV-VALUE; Value is an element of LVS
 pub record Element : Type 0 where
   pub type : ℕ
   pub inside : List ℕ

@@ -1,4 +1,4 @@
--- The numbers of document 01, "Elements". A type or a length is a number of 1, 3, 5 or 9 bytes: below 253 one byte; else 253 and two bytes,
+-- Numbers (docs/format.md, 2.1 and 2.3). A type or a length is a number of 1, 3, 5 or 9 bytes: below 253 one byte; else 253 and two bytes,
 -- 254 and four, 255 and eight, high byte first, in the shortest form (NDN's VAR-NUMBER). An integer value has 1, 2, 4 or 8 bytes,
 -- not necessarily the shortest (NDN's NonNegativeInteger). Definitions only.
 use Prim.Native.Nat.{ℕ, _+_}

@@ -8,21 +8,9 @@ use Rattle.lvs_bindings.proofs.unbind_tag.Tie as tie
 returns : tie.Need-returns
 returns c = clear-none _ _ (c .if1 .taken)
 
-mul-i : tie.Need-mul-i
-mul-i c = search needs
-
-add-slots : tie.Need-add-slots
-add-slots c = search needs
-
-mul-slots : tie.Need-mul-slots
-mul-slots c = search needs
-
-element-write-slots : tie.Need-element-write-slots
-element-write-slots c = search needs
-
 returns-2 : tie.Need-returns-2
 returns-2 c = clear-some _ _ (omega arith)
 
 pub unbind-tag-spec : {M : Type 1} → statement M
 unbind-tag-spec =
-    tie.close (tie.spec returns mul-i add-slots mul-slots element-write-slots returns-2)
+    tie.close (tie.spec returns (λ c. search needs) (λ c. search needs) (λ c. search needs) (λ c. search needs) returns-2)

@@ -24,12 +24,6 @@ step c = seen _ _ (c .before .before .element .ensures) (c .typ .given .1)
 loop-holds : tie.Need-loop-holds Inv-loop μ-loop
 loop-holds c = started
 
-element-requires : tie.Need-element-requires Inv-loop μ-loop
-element-requires c κs = search needs
-
-enum-known-typ : tie.Need-enum-known-typ Inv-loop μ-loop
-enum-known-typ c = search needs
-
 returns : tie.Need-returns Inv-loop μ-loop
 returns c = argument-value (c .before .before .before .before .before .loop .inv) (step (c .before .before)) (c .if1 .taken)
 
@@ -41,9 +35,6 @@ part-number-of-start c = step (c .before .before .before) .order
 
 part-number-of-end : tie.Need-part-number-of-end Inv-loop μ-loop
 part-number-of-end c = step (c .before .before .before) .within
-
-number-of-requires : tie.Need-number-of-requires Inv-loop μ-loop
-number-of-requires c κs = search needs
 
 returns-2 : tie.Need-returns-2 Inv-loop μ-loop
 returns-2 c =
@@ -57,14 +48,8 @@ loop-again : tie.Need-loop-again Inv-loop μ-loop
 loop-again c =
     argument-later (c .before .before .before .before .before .before .loop .inv) (step (c .before .before .before)) (c .before .if1 .left) (c .if2 .left)
 
-enum-told : tie.Need-enum-told Inv-loop μ-loop
-enum-told c = search needs
-
 returns-3 : tie.Need-returns-3 Inv-loop μ-loop
 returns-3 c = argument-none (c .before .before .before .loop .inv) (stop-end _ _ (c .before .before .element .ensures) (c .enum-told .given .1))
-
-enum-told-2 : tie.Need-enum-told-2 Inv-loop μ-loop
-enum-told-2 c = search needs
 
 returns-4 : tie.Need-returns-4 Inv-loop μ-loop
 returns-4 c = argument-none (c .before .before .before .loop .inv) (stop-malformed _ _ (c .before .before .element .ensures) (c .enum-told2 .given .1))
@@ -76,17 +61,17 @@ argument-of-spec =
     Inv-loop
     μ-loop
     loop-holds
-    element-requires
-    enum-known-typ
+    (λ c κs. search needs)
+    (λ c. search needs)
     returns
     sub-number-of
     part-number-of-start
     part-number-of-end
-    number-of-requires
+    (λ c κs. search needs)
     returns-2
     loop-less
     loop-again
-    enum-told
+    (λ c. search needs)
     returns-3
-    enum-told-2
+    (λ c. search needs)
     returns-4)

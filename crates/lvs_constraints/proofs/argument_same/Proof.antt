@@ -7,12 +7,6 @@ use Rattle.lvs_constraints.proofs.Bound.{bound-argument}
 use Rattle.lvs_constraints.proofs.argument_same.Statement.{statement}
 use Rattle.lvs_constraints.proofs.argument_same.Tie as tie
 
-argument-of-requires : tie.Need-argument-of-requires
-argument-of-requires c κs = search needs
-
-enum-known-start : tie.Need-enum-known-start
-enum-known-start c = search needs
-
 sub-begins-with : tie.Need-sub-begins-with
 sub-begins-with c = subst (ArgumentAt _) (c .before .start .given .1) (c .before .before .before .argument-of .ensures) .order
 
@@ -21,15 +15,6 @@ part-begins-with-start c = subst (ArgumentAt _) (c .before .start .given .1) (c 
 
 part-begins-with-end : tie.Need-part-begins-with-end
 part-begins-with-end c = subst (ArgumentAt _) (c .before .start .given .1) (c .before .before .before .argument-of .ensures) .within
-
-begins-with-requires : tie.Need-begins-with-requires
-begins-with-requires c κs = search needs
-
-enum-known-tag : tie.Need-enum-known-tag
-enum-known-tag c = search needs
-
-bound-same-requires : tie.Need-bound-same-requires
-bound-same-requires c κs = search needs
 
 returns : tie.Need-returns
 unfolding argumentIn
@@ -46,13 +31,13 @@ pub argument-same-spec : {M : Type 1} → statement M
 argument-same-spec =
     tie.close
     (tie.spec
-    argument-of-requires
-    enum-known-start
+    (λ c κs. search needs)
+    (λ c. search needs)
     sub-begins-with
     part-begins-with-start
     part-begins-with-end
-    begins-with-requires
-    enum-known-tag
-    bound-same-requires
+    (λ c κs. search needs)
+    (λ c. search needs)
+    (λ c κs. search needs)
     returns
     returns-2)

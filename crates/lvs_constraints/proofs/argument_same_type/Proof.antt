@@ -6,12 +6,6 @@ use Rattle.lvs_constraints.specs.Arguments.{ArgumentAt}
 use Rattle.lvs_constraints.proofs.argument_same_type.Statement.{statement}
 use Rattle.lvs_constraints.proofs.argument_same_type.Tie as tie
 
-argument-of-requires : tie.Need-argument-of-requires
-argument-of-requires c κs = search needs
-
-enum-known-start : tie.Need-enum-known-start
-enum-known-start c = search needs
-
 sub-same-type : tie.Need-sub-same-type
 sub-same-type c = subst (ArgumentAt _) (c .before .start .given .1) (c .before .before .before .argument-of .ensures) .order
 
@@ -20,15 +14,6 @@ part-same-type-start c = subst (ArgumentAt _) (c .before .start .given .1) (c .b
 
 part-same-type-end : tie.Need-part-same-type-end
 part-same-type-end c = subst (ArgumentAt _) (c .before .start .given .1) (c .before .before .before .argument-of .ensures) .within
-
-same-type-requires : tie.Need-same-type-requires
-same-type-requires c κs = search needs
-
-enum-known-tag : tie.Need-enum-known-tag
-enum-known-tag c = search needs
-
-bound-same-type-requires : tie.Need-bound-same-type-requires
-bound-same-type-requires c κs = search needs
 
 returns : tie.Need-returns
 unfolding argumentIn
@@ -45,13 +30,13 @@ pub argument-same-type-spec : {M : Type 1} → statement M
 argument-same-type-spec =
     tie.close
     (tie.spec
-    argument-of-requires
-    enum-known-start
+    (λ c κs. search needs)
+    (λ c. search needs)
     sub-same-type
     part-same-type-start
     part-same-type-end
-    same-type-requires
-    enum-known-tag
-    bound-same-type-requires
+    (λ c κs. search needs)
+    (λ c. search needs)
+    (λ c κs. search needs)
     returns
     returns-2)

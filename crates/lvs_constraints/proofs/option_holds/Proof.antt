@@ -26,12 +26,6 @@ step c = seen _ _ (c .before .before .element .ensures) (c .typ .given .1)
 loop-holds : tie.Need-loop-holds Inv-loop μ-loop
 loop-holds c = started
 
-element-requires : tie.Need-element-requires Inv-loop μ-loop
-element-requires c κs = search needs
-
-enum-known-typ : tie.Need-enum-known-typ Inv-loop μ-loop
-enum-known-typ c = search needs
-
 sub-term-holds : tie.Need-sub-term-holds Inv-loop μ-loop
 sub-term-holds c = step (c .before) .order
 
@@ -40,9 +34,6 @@ part-term-holds-start c = step (c .before) .order
 
 part-term-holds-end : tie.Need-part-term-holds-end Inv-loop μ-loop
 part-term-holds-end c = step (c .before) .within
-
-term-holds-requires : tie.Need-term-holds-requires Inv-loop μ-loop
-term-holds-requires c κs = search needs
 
 returns : tie.Need-returns Inv-loop μ-loop
 unfolding optionHolds optionOf
@@ -58,15 +49,9 @@ loop-again c =
     let d = c .before .before .before .before in
     none-in-it termFrom (d .before .before .before .loop .inv) (step d) (c .before .term-holds .ensures) (c .if1 .left)
 
-enum-told : tie.Need-enum-told Inv-loop μ-loop
-enum-told c = search needs
-
 returns-2 : tie.Need-returns-2 Inv-loop μ-loop
 unfolding optionHolds optionOf
 returns-2 c = ended (c .before .before .before .loop .inv) (each-stop termFrom (stop-end _ _ (c .before .before .element .ensures) (c .enum-told .given .1)))
-
-enum-told-2 : tie.Need-enum-told-2 Inv-loop μ-loop
-enum-told-2 c = search needs
 
 returns-3 : tie.Need-returns-3 Inv-loop μ-loop
 unfolding optionHolds optionOf
@@ -80,16 +65,16 @@ option-holds-spec =
     Inv-loop
     μ-loop
     loop-holds
-    element-requires
-    enum-known-typ
+    (λ c κs. search needs)
+    (λ c. search needs)
     sub-term-holds
     part-term-holds-start
     part-term-holds-end
-    term-holds-requires
+    (λ c κs. search needs)
     returns
     loop-less
     loop-again
-    enum-told
+    (λ c. search needs)
     returns-2
-    enum-told-2
+    (λ c. search needs)
     returns-3)

@@ -5,23 +5,11 @@ use Rattle.lvs_constraints.proofs.Holds.{term-value, term-tag, term-cal
 use Rattle.lvs_constraints.proofs.term_holds.Statement.{statement}
 use Rattle.lvs_constraints.proofs.term_holds.Tie as tie
 
-begins-with-requires : tie.Need-begins-with-requires
-begins-with-requires c κs = search needs
-
 returns : tie.Need-returns
 returns c = c .begins-with .ensures ∙ sym (term-value _ _ _ _ (c .before .if1 .taken))
 
-number-of-requires : tie.Need-number-of-requires
-number-of-requires c κs = search needs
-
-bound-same-requires : tie.Need-bound-same-requires
-bound-same-requires c κs = search needs
-
 returns-2 : tie.Need-returns-2
 returns-2 c = c .bound-same .ensures ∙ rw (c .before .number-of .ensures) (sym (term-tag _ _ _ _ (c .before .before .if2 .taken)))
-
-call-holds-requires : tie.Need-call-holds-requires
-call-holds-requires c κs = search needs
 
 returns-3 : tie.Need-returns-3
 returns-3 c = c .call-holds .ensures ∙ sym (term-call _ _ _ _ (c .before .if3 .taken))
@@ -33,11 +21,11 @@ pub term-holds-spec : {M : Type 1} → statement M
 term-holds-spec =
     tie.close
     (tie.spec
-    begins-with-requires
+    (λ c κs. search needs)
     returns
-    number-of-requires
-    bound-same-requires
+    (λ c κs. search needs)
+    (λ c κs. search needs)
     returns-2
-    call-holds-requires
+    (λ c κs. search needs)
     returns-3
     returns-4)

@@ -22,40 +22,16 @@ not-eq-type c = sym (c .before .same-bytes2 .ensures) ∙ c .if2 .left
 not-id : (c : tie.Else3) → sameBytes (name (c .before .before .before .before .before .before)) idName ≡ false
 not-id c = sym (c .before .same-bytes3 .ensures) ∙ c .if3 .left
 
-slice-aggregate-same-bytes : tie.Need-slice-aggregate-same-bytes
-slice-aggregate-same-bytes c = search needs
-
-same-bytes-requires : tie.Need-same-bytes-requires
-same-bytes-requires c κs = search needs
-
 returns : tie.Need-returns
 returns c = is-eq _ (sym (c .before .same-bytes .ensures) ∙ c .if1 .taken)
 
-slice-aggregate-same-bytes-2 : tie.Need-slice-aggregate-same-bytes-2
-slice-aggregate-same-bytes-2 c = search needs
-
-same-bytes-requires-2 : tie.Need-same-bytes-requires-2
-same-bytes-requires-2 c κs = search needs
-
 returns-2 : tie.Need-returns-2
 returns-2 c = is-eq-type _ (not-eq (c .before .before .before)) (sym (c .before .same-bytes2 .ensures) ∙ c .if2 .taken)
-
-slice-aggregate-same-bytes-3 : tie.Need-slice-aggregate-same-bytes-3
-slice-aggregate-same-bytes-3 c = search needs
-
-same-bytes-requires-3 : tie.Need-same-bytes-requires-3
-same-bytes-requires-3 c κs = search needs
 
 returns-3 : tie.Need-returns-3
 returns-3 c =
     let d = c .before .before .before in
     is-id _ (not-eq (d .before .before .before)) (not-eq-type d) (sym (c .before .same-bytes3 .ensures) ∙ c .if3 .taken)
-
-slice-aggregate-same-bytes-4 : tie.Need-slice-aggregate-same-bytes-4
-slice-aggregate-same-bytes-4 c = search needs
-
-same-bytes-requires-4 : tie.Need-same-bytes-requires-4
-same-bytes-requires-4 c κs = search needs
 
 returns-4 : tie.Need-returns-4
 returns-4 c =
@@ -73,16 +49,16 @@ pub function-of-spec : {M : Type 1} → statement M
 function-of-spec =
     tie.close
     (tie.spec
-    slice-aggregate-same-bytes
-    same-bytes-requires
+    (λ c. search needs)
+    (λ c κs. search needs)
     returns
-    slice-aggregate-same-bytes-2
-    same-bytes-requires-2
+    (λ c. search needs)
+    (λ c κs. search needs)
     returns-2
-    slice-aggregate-same-bytes-3
-    same-bytes-requires-3
+    (λ c. search needs)
+    (λ c κs. search needs)
     returns-3
-    slice-aggregate-same-bytes-4
-    same-bytes-requires-4
+    (λ c. search needs)
+    (λ c κs. search needs)
     returns-4
     returns-5)

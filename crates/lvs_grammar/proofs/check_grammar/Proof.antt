@@ -11,15 +11,9 @@ returns : tie.Need-returns
 unfolding readingOf tooLong
 returns c = rw (lt-ltb _ _ (c .if1 .taken))
 
-other-version-requires : tie.Need-other-version-requires
-other-version-requires c κs = search needs
-
 returns-2 : tie.Need-returns-2
 unfolding readingOf tooLong
 returns-2 c = rw (le-ltb _ _ (c .before .before .if1 .left), sym (c .before .other-version .ensures) ∙ c .if2 .taken)
-
-well-formed-requires : tie.Need-well-formed-requires
-well-formed-requires c κs = search needs
 
 returns-3 : tie.Need-returns-3
 unfolding readingOf tooLong wellFormed
@@ -32,4 +26,4 @@ returns-4 c = rw (le-ltb _ _ (c .before .before .before .before .if1 .left), sym
 pub check-grammar-spec : {M : Type 1} → statement M
 check-grammar-spec =
     tie.close
-    (tie.spec returns other-version-requires returns-2 well-formed-requires returns-3 returns-4)
+    (tie.spec returns (λ c κs. search needs) returns-2 (λ c κs. search needs) returns-3 returns-4)

@@ -13,16 +13,10 @@ returns-2 : tie.Need-returns-2
 unfolding isOtherVersion
 returns-2 c = rw (eq-eqb _ _ (c .before .if1 .left), ne-eqb _ _ (c .if2 .taken))
 
-slice-aggregate-same-bytes : tie.Need-slice-aggregate-same-bytes
-slice-aggregate-same-bytes c = search needs
-
-same-bytes-requires : tie.Need-same-bytes-requires
-same-bytes-requires c κs = search needs
-
 returns-3 : tie.Need-returns-3
 unfolding isOtherVersion
 returns-3 c = rw (eq-eqb _ _ (c .before .before .before .if1 .left), eq-eqb _ _ (c .before .before .if2 .left), c .same-bytes .ensures)
 
 pub is-other-version-spec : {M : Type 1} → statement M
 is-other-version-spec =
-    tie.close (tie.spec returns returns-2 slice-aggregate-same-bytes same-bytes-requires returns-3)
+    tie.close (tie.spec returns returns-2 (λ c. search needs) (λ c κs. search needs) returns-3)

@@ -20,26 +20,11 @@ abbrev μ-loop : tie.MeasureT-loop
 loop-holds : tie.Need-loop-holds Inv-loop μ-loop
 loop-holds c = other-start _
 
-element-requires : tie.Need-element-requires Inv-loop μ-loop
-element-requires c κs = search needs
-
-enum-told : tie.Need-enum-told Inv-loop μ-loop
-enum-told c = search needs
-
 returns : tie.Need-returns Inv-loop μ-loop
 returns c = sym (c .before .before .before .loop .inv ∙ other-end _ _ (c .before .before .element .ensures) (c .enum-told .given .1))
 
-enum-told-2 : tie.Need-enum-told-2 Inv-loop μ-loop
-enum-told-2 c = search needs
-
 returns-2 : tie.Need-returns-2 Inv-loop μ-loop
 returns-2 c = sym (c .before .before .before .loop .inv ∙ other-broken _ _ (c .before .before .element .ensures) (c .enum-told2 .given .1))
-
-enum-known-typ : tie.Need-enum-known-typ Inv-loop μ-loop
-enum-known-typ c = search needs
-
-is-optional-requires : tie.Need-is-optional-requires Inv-loop μ-loop
-is-optional-requires c κs = search needs
 
 sub-is-other-version : tie.Need-sub-is-other-version Inv-loop μ-loop
 sub-is-other-version c =
@@ -58,9 +43,6 @@ part-is-other-version-end c =
     let y = c .before .before .before in
     let e = y .before .before in
     omega (arith, seen _ _ (e .element .ensures) (y .typ .given .1))
-
-is-other-version-requires : tie.Need-is-other-version-requires Inv-loop μ-loop
-is-other-version-requires c κs = search needs
 
 returns-3 : tie.Need-returns-3 Inv-loop μ-loop
 returns-3 c =
@@ -90,17 +72,17 @@ other-version-spec =
     Inv-loop
     μ-loop
     loop-holds
-    element-requires
-    enum-told
+    (λ c κs. search needs)
+    (λ c. search needs)
     returns
-    enum-told-2
+    (λ c. search needs)
     returns-2
-    enum-known-typ
-    is-optional-requires
+    (λ c. search needs)
+    (λ c κs. search needs)
     sub-is-other-version
     part-is-other-version-start
     part-is-other-version-end
-    is-other-version-requires
+    (λ c κs. search needs)
     returns-3
     loop-less
     loop-again)

@@ -22,11 +22,8 @@ returns c = let d = c .before in begins-short _ _ (bytes-s d) (bytes-c d) (d .be
 slice-aggregate-same-bytes : tie.Need-slice-aggregate-same-bytes
 slice-aggregate-same-bytes c = sym (length-take-le _ _ (omega arith))
 
-same-bytes-requires : tie.Need-same-bytes-requires
-same-bytes-requires c κs = search needs
-
 returns-2 : tie.Need-returns-2
 returns-2 c = let d = c .before .before .before in c .same-bytes .ensures ∙ begins-is _ _ (bytes-s d) (bytes-c d) (d .before .before .pre)
 
 pub begins-with-spec : {M : Type 1} → statement M
-begins-with-spec = tie.close (tie.spec returns slice-aggregate-same-bytes same-bytes-requires returns-2)
+begins-with-spec = tie.close (tie.spec returns slice-aggregate-same-bytes (λ c κs. search needs) returns-2)

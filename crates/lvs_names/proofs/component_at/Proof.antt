@@ -5,18 +5,6 @@ use Rattle.lvs_names.proofs.Names.{row-done, row-broken, row-next}
 use Rattle.lvs_names.proofs.component_at.Statement.{statement}
 use Rattle.lvs_names.proofs.component_at.Tie as tie
 
-element-requires : tie.Need-element-requires
-element-requires c κs = search needs
-
-enum-known-end : tie.Need-enum-known-end
-enum-known-end c = search needs
-
-enum-told : tie.Need-enum-told
-enum-told c = search needs
-
-enum-told-2 : tie.Need-enum-told-2
-enum-told-2 c = search needs
-
 returns : tie.Need-returns
 returns c =
     row-next
@@ -32,4 +20,4 @@ returns-3 c = row-broken _ _ (seen _ _ (c .before .before .element .ensures) (c 
 pub component-at-spec : {M : Type 1} → statement M
 component-at-spec =
     tie.close
-    (tie.spec element-requires enum-known-end enum-told enum-told-2 returns returns-2 returns-3)
+    (tie.spec (λ c κs. search needs) (λ c. search needs) (λ c. search needs) (λ c. search needs) returns returns-2 returns-3)

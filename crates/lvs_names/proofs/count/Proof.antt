@@ -24,12 +24,6 @@ step c = seen _ _ (c .before .before .element .ensures) (c .typ .given .1)
 loop-holds : tie.Need-loop-holds Inv-loop μ-loop
 loop-holds c = (omega arith, started)
 
-element-requires : tie.Need-element-requires Inv-loop μ-loop
-element-requires c κs = search needs
-
-enum-known-typ : tie.Need-enum-known-typ Inv-loop μ-loop
-enum-known-typ c = search needs
-
 returns : tie.Need-returns Inv-loop μ-loop
 returns c = count-large (c .before .before .before .before .before .loop .inv .1) (step (c .before .before)) (c .if1 .taken)
 
@@ -45,14 +39,8 @@ loop-again c =
     let inv = c .before .before .before .before .before .loop .inv in
     (omega (arith, inv .0), count-one (inv .1) st (c .if1 .left))
 
-enum-told : tie.Need-enum-told Inv-loop μ-loop
-enum-told c = search needs
-
 returns-2 : tie.Need-returns-2 Inv-loop μ-loop
 returns-2 c = count-none (c .before .before .before .loop .inv .1) (seen _ _ (c .before .before .element .ensures) (c .enum-told .given .1))
-
-enum-told-2 : tie.Need-enum-told-2 Inv-loop μ-loop
-enum-told-2 c = search needs
 
 returns-3 : tie.Need-returns-3 Inv-loop μ-loop
 returns-3 c = count-broken (c .before .before .before .loop .inv .1) (seen _ _ (c .before .before .element .ensures) (c .enum-told2 .given .1))
@@ -64,13 +52,13 @@ count-spec =
     Inv-loop
     μ-loop
     loop-holds
-    element-requires
-    enum-known-typ
+    (λ c κs. search needs)
+    (λ c. search needs)
     returns
     add-n
     loop-less
     loop-again
-    enum-told
+    (λ c. search needs)
     returns-2
-    enum-told-2
+    (λ c. search needs)
     returns-3)

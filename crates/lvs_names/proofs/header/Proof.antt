@@ -10,23 +10,11 @@ use Rattle.lvs_names.proofs.header.Tie as tie
 step : (c : tie.After-typ) → SeenOf _ _ (c .before .before .element .ensures) (c .typ .given .1)
 step c = seen _ _ (c .before .before .element .ensures) (c .typ .given .1)
 
-element-requires : tie.Need-element-requires
-element-requires c κs = search needs
-
-enum-known-typ : tie.Need-enum-known-typ
-enum-known-typ c = search needs
-
 returns : tie.Need-returns
 returns c = sym (header-type (step (c .before .before)) (c .if1 .taken))
 
 returns-2 : tie.Need-returns-2
 returns-2 c = sym (header-more (step (c .before .before .before)) (c .before .if1 .left) (c .if2 .taken))
-
-enum-told : tie.Need-enum-told
-enum-told c = search needs
-
-enum-told-2 : tie.Need-enum-told-2
-enum-told-2 c = search needs
 
 returns-3 : tie.Need-returns-3
 returns-3 c = sym (header-found (step (c .before .before .before)) (c .before .if1 .left) (c .if2 .left))
@@ -41,12 +29,12 @@ pub header-spec : {M : Type 1} → statement M
 header-spec =
     tie.close
     (tie.spec
-    element-requires
-    enum-known-typ
+    (λ c κs. search needs)
+    (λ c. search needs)
     returns
     returns-2
-    enum-told
-    enum-told-2
+    (λ c. search needs)
+    (λ c. search needs)
     returns-3
     returns-4
     returns-5)

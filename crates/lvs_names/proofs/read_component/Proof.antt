@@ -5,18 +5,6 @@ use Rattle.lvs_names.proofs.Names.{content-found, content-end, content-
 use Rattle.lvs_names.proofs.read_component.Statement.{statement}
 use Rattle.lvs_names.proofs.read_component.Tie as tie
 
-element-requires : tie.Need-element-requires
-element-requires c κs = search needs
-
-enum-known-typ : tie.Need-enum-known-typ
-enum-known-typ c = search needs
-
-enum-told : tie.Need-enum-told
-enum-told c = search needs
-
-enum-told-2 : tie.Need-enum-told-2
-enum-told-2 c = search needs
-
 returns : tie.Need-returns
 returns c = content-found (first-seen _ _ (c .before .before .before .element .ensures) (c .before .typ .given .1))
 
@@ -29,4 +17,4 @@ returns-3 c = content-malformed _ (first-seen _ _ (c .before .before .element .e
 pub read-component-spec : {M : Type 1} → statement M
 read-component-spec =
     tie.close
-    (tie.spec element-requires enum-known-typ enum-told enum-told-2 returns returns-2 returns-3)
+    (tie.spec (λ c κs. search needs) (λ c. search needs) (λ c. search needs) (λ c. search needs) returns returns-2 returns-3)

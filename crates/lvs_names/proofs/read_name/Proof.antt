@@ -28,32 +28,11 @@ module _ (c : tie.After-count) where
 returns : tie.Need-returns
 returns c = sym (too-long _ _ (c .if1 .taken))
 
-header-requires : tie.Need-header-requires
-header-requires c κs = search needs
-
-add-t7 : tie.Need-add-t7
-add-t7 c = search needs
-
 returns-2 : tie.Need-returns-2
 returns-2 c = sym (headless _ _ (c .before .before .if1 .left) (sym (c .before .header .ensures) ∙ c .if2 .taken))
 
-count-requires : tie.Need-count-requires
-count-requires c κs = search needs
-
-enum-known-n : tie.Need-enum-known-n
-enum-known-n c = search needs
-
-enum-told : tie.Need-enum-told
-enum-told c = search needs
-
-add-t9 : tie.Need-add-t9
-add-t9 c = search needs
-
 returns-3 : tie.Need-returns-3
 returns-3 c = let d = c .before .before in sym (malformed-name (name d) _ (short d) (headed d) (counted d) (c .enum-told .given .1))
-
-add-t10 : tie.Need-add-t10
-add-t10 c = search needs
 
 returns-4 : tie.Need-returns-4
 returns-4 c =
@@ -70,14 +49,14 @@ read-name-spec =
     tie.close
     (tie.spec
     returns
-    header-requires
-    add-t7
+    (λ c κs. search needs)
+    (λ c. search needs)
     returns-2
-    count-requires
-    enum-known-n
-    enum-told
-    add-t9
+    (λ c κs. search needs)
+    (λ c. search needs)
+    (λ c. search needs)
+    (λ c. search needs)
     returns-3
-    add-t10
+    (λ c. search needs)
     returns-4
     returns-5)

@@ -5,14 +5,8 @@ use Rattle.lvs_names.proofs.Names.{size-is}
 use Rattle.lvs_names.proofs.value_size.Statement.{statement}
 use Rattle.lvs_names.proofs.value_size.Tie as tie
 
-read-component-requires : tie.Need-read-component-requires
-read-component-requires c κs = search needs
-
-sub-result : tie.Need-sub-result
-sub-result c = search needs
-
 returns : tie.Need-returns
 returns c = sym (size-is (c .before .read-component .ensures))
 
 pub value-size-spec : {M : Type 1} → statement M
-value-size-spec = tie.close (tie.spec read-component-requires sub-result returns)
+value-size-spec = tie.close (tie.spec (λ c κs. search needs) (λ c. search needs) returns)

@@ -16,18 +16,6 @@ abbrev μ-loop : tie.MeasureT-loop
 loop-holds : tie.Need-loop-holds Inv-loop μ-loop
 loop-holds c = tt
 
-element-from-requires : tie.Need-element-from-requires Inv-loop μ-loop
-element-from-requires c κs = search needs
-
-enum-known-typ : tie.Need-enum-known-typ Inv-loop μ-loop
-enum-known-typ c = search needs
-
-inside-from-requires : tie.Need-inside-from-requires Inv-loop μ-loop
-inside-from-requires c κs = search needs
-
-print-node-requires : tie.Need-print-node-requires Inv-loop μ-loop
-print-node-requires c κs = search needs
-
 loop-less : tie.Need-loop-less Inv-loop μ-loop
 loop-less c = omega (arith, seen _ _ (c .before .before .before .before .before .before .element-from .ensures) (c .before .before .before .before .typ .given .1))
 
@@ -40,18 +28,6 @@ loop-less-2 c = omega (arith, seen _ _ (c .before .before .before .before .eleme
 loop-again-2 : tie.Need-loop-again-2 Inv-loop μ-loop
 loop-again-2 c = tt
 
-enum-told : tie.Need-enum-told Inv-loop μ-loop
-enum-told c = search needs
-
-returns : tie.Need-returns Inv-loop μ-loop
-returns c = search needs
-
-enum-told-2 : tie.Need-enum-told-2 Inv-loop μ-loop
-enum-told-2 c = search needs
-
-returns-2 : tie.Need-returns-2 Inv-loop μ-loop
-returns-2 c = search needs
-
 pub print-nodes-spec : {M : Type 1} → statement M
 print-nodes-spec =
     tie.close
@@ -59,15 +35,15 @@ print-nodes-spec =
     Inv-loop
     μ-loop
     loop-holds
-    element-from-requires
-    enum-known-typ
-    inside-from-requires
-    print-node-requires
+    (λ c κs. search needs)
+    (λ c. search needs)
+    (λ c κs. search needs)
+    (λ c κs. search needs)
     loop-less
     loop-again
     loop-less-2
     loop-again-2
-    enum-told
-    returns
-    enum-told-2
-    returns-2)
+    (λ c. search needs)
+    (λ c. search needs)
+    (λ c. search needs)
+    (λ c. search needs))

@@ -13,20 +13,11 @@ use Rattle.tlv.proofs.big_endian.Tie as tie
 eight : {w : ℕ} → integerSize w ≡ true → (w ≡ 1 → ⊥) → (w ≡ 2 → ⊥) → (w ≡ 4 → ⊥) → w ≡ 8
 eight {w} ok a b c = eqb-true w 8 (sym (only-eight w a b c) ∙ ok)
 
-u8-at-requires : tie.Need-u8-at-requires
-u8-at-requires c κs = search needs
-
 returns : tie.Need-returns
 returns c = rw (c .before .if1 .taken) (c .u8-at .ensures)
 
-u16-at-requires : tie.Need-u16-at-requires
-u16-at-requires c κs = search needs
-
 returns-2 : tie.Need-returns-2
 returns-2 c = rw (c .before .if2 .taken) (c .u16-at .ensures)
-
-u32-at-requires : tie.Need-u32-at-requires
-u32-at-requires c κs = search needs
 
 returns-3 : tie.Need-returns-3
 returns-3 c = rw (c .before .if3 .taken) (c .u32-at .ensures)
@@ -41,11 +32,11 @@ pub big-endian-spec : {M : Type 1} → statement M
 big-endian-spec =
     tie.close
     (tie.spec
-    u8-at-requires
+    (λ c κs. search needs)
     returns
-    u16-at-requires
+    (λ c κs. search needs)
     returns-2
-    u32-at-requires
+    (λ c κs. search needs)
     returns-3
     u64-at-requires
     returns-4)

@@ -25,12 +25,6 @@ module _ (c : tie.After-t Inv-loop μ-loop) where
 loop-holds : tie.Need-loop-holds Inv-loop μ-loop
 loop-holds c = started
 
-element-requires : tie.Need-element-requires Inv-loop μ-loop
-element-requires c κs = search needs
-
-enum-known-t : tie.Need-enum-known-t Inv-loop μ-loop
-enum-known-t c = search needs
-
 returns : tie.Need-returns Inv-loop μ-loop
 returns c = inside-here (c .before .before .before .before .before .loop .inv) (step (c .before .before)) (c .if1 .taken)
 
@@ -40,14 +34,8 @@ loop-less c = let st = step (c .before .before) in omega arith
 loop-again : tie.Need-loop-again Inv-loop μ-loop
 loop-again c = passed (c .before .before .before .before .before .loop .inv) (insides-other _ (step (c .before .before)) (c .if1 .left))
 
-enum-told : tie.Need-enum-told Inv-loop μ-loop
-enum-told c = search needs
-
 returns-2 : tie.Need-returns-2 Inv-loop μ-loop
 returns-2 c = inside-none (c .before .before .before .loop .inv) (stop-end _ _ (c .before .before .element .ensures) (c .enum-told .given .1))
-
-enum-told-2 : tie.Need-enum-told-2 Inv-loop μ-loop
-enum-told-2 c = search needs
 
 returns-3 : tie.Need-returns-3 Inv-loop μ-loop
 returns-3 c = inside-none (c .before .before .before .loop .inv) (stop-malformed _ _ (c .before .before .element .ensures) (c .enum-told2 .given .1))
@@ -59,12 +47,12 @@ inside-of-spec =
     Inv-loop
     μ-loop
     loop-holds
-    element-requires
-    enum-known-t
+    (λ c κs. search needs)
+    (λ c. search needs)
     returns
     loop-less
     loop-again
-    enum-told
+    (λ c. search needs)
     returns-2
-    enum-told-2
+    (λ c. search needs)
     returns-3)

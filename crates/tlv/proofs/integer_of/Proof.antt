@@ -8,9 +8,6 @@ use Rattle.tlv.specs.Answers.{integerOf}
 use Rattle.tlv.proofs.integer_of.Statement.{statement}
 use Rattle.tlv.proofs.integer_of.Tie as tie
 
-integer-size-requires : tie.Need-integer-size-requires
-integer-size-requires c κs = search needs
-
 big-endian-requires : tie.Need-big-endian-requires
 big-endian-requires c κs = (sym (c .before .integer-size .ensures) ∙ c .if1 .taken, omega arith)
 
@@ -23,4 +20,4 @@ unfolding integerOf integer
 returns-2 c = rw (sym (c .before .integer-size .ensures) ∙ c .if1 .left)
 
 pub integer-of-spec : {M : Type 1} → statement M
-integer-of-spec = tie.close (tie.spec integer-size-requires big-endian-requires returns returns-2)
+integer-of-spec = tie.close (tie.spec (λ c κs. search needs) big-endian-requires returns returns-2)

@@ -14,23 +14,8 @@ use Rattle.tlv.proofs.number.Tie as tie
 returns : tie.Need-returns
 returns c = sym (none-left _ _ (c .if1 .taken))
 
-shared-slice-read-b : tie.Need-shared-slice-read-b
-shared-slice-read-b c = search needs
-
-add-from : tie.Need-add-from
-add-from c = search needs
-
-cast-t11 : tie.Need-cast-t11
-cast-t11 c = search needs
-
 returns-2 : tie.Need-returns-2
 returns-2 c = sym (one-byte _ _ (omega arith) (c .if2 .taken))
-
-width-of-requires : tie.Need-width-of-requires
-width-of-requires c κs = search needs
-
-sub-if3 : tie.Need-sub-if3
-sub-if3 c = search needs
 
 returns-3 : tie.Need-returns-3
 returns-3 c = sym (too-short _ _ (omega arith) (omega arith) (omega arith))
@@ -38,17 +23,11 @@ returns-3 c = sym (too-short _ _ (omega arith) (omega arith) (omega arith))
 big-endian-requires : tie.Need-big-endian-requires
 big-endian-requires c κs = (rw (c .before .width-of .ensures) (width-size _), omega arith)
 
-least-of-requires : tie.Need-least-of-requires
-least-of-requires c κs = search needs
-
 returns-4 : tie.Need-returns-4
 returns-4 c =
     let a = c .before .before .before .before .before .before .before .before .before .args in
     let e : c .before .before .big-endian .result ≡ bigEndian (take (width (getD (a .s .now) (a .at) 0)) (drop (a .at + 1) (a .s .now))) = cc in
     sym (not-shortest _ _ (omega arith) (omega arith) (omega arith) (omega arith))
-
-add-t7 : tie.Need-add-t7
-add-t7 c = search needs
 
 returns-5 : tie.Need-returns-5
 returns-5 c =
@@ -60,4 +39,4 @@ returns-5 c =
 pub number-spec : {M : Type 1} → statement M
 number-spec =
     tie.close
-    (tie.spec returns shared-slice-read-b add-from cast-t11 returns-2 width-of-requires sub-if3 returns-3 big-endian-requires least-of-requires returns-4 add-t7 returns-5)
+    (tie.spec returns (λ c. search needs) (λ c. search needs) (λ c. search needs) returns-2 (λ c κs. search needs) (λ c. search needs) returns-3 big-endian-requires (λ c κs. search needs) returns-4 (λ c. search needs) returns-5)

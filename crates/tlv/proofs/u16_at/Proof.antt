@@ -5,24 +5,9 @@ use Rattle.tlv.proofs.Bytes.{joined}
 use Rattle.tlv.proofs.u16_at.Statement.{statement}
 use Rattle.tlv.proofs.u16_at.Tie as tie
 
-u8-at-requires : tie.Need-u8-at-requires
-u8-at-requires c κs = search needs
-
-add-u8-at : tie.Need-add-u8-at
-add-u8-at c = search needs
-
-u8-at-requires-2 : tie.Need-u8-at-requires-2
-u8-at-requires-2 c κs = search needs
-
-mul-result : tie.Need-mul-result
-mul-result c = search needs
-
-add-result : tie.Need-add-result
-add-result c = search needs
-
 returns : tie.Need-returns
 returns c = joined _ _ 1 1 (c .before .u8-at .ensures) (c .u8-at2 .ensures) (omega arith)
 
 pub u16-at-spec : {M : Type 1} → statement M
 u16-at-spec =
-    tie.close (tie.spec u8-at-requires add-u8-at u8-at-requires-2 mul-result add-result returns)
+    tie.close (tie.spec (λ c κs. search needs) (λ c. search needs) (λ c κs. search needs) (λ c. search needs) (λ c. search needs) returns)

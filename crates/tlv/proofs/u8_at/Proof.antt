@@ -5,9 +5,6 @@ use Rattle.tlv.proofs.Bytes.{one-byte}
 use Rattle.tlv.proofs.u8_at.Statement.{statement}
 use Rattle.tlv.proofs.u8_at.Tie as tie
 
-shared-slice-read-result : tie.Need-shared-slice-read-result
-shared-slice-read-result c = search needs
-
 cast-result : tie.Need-cast-result
 cast-result c = omega (arith, c .shared-slice-known .given (c .before .args .at))
 
@@ -15,4 +12,4 @@ returns : tie.Need-returns
 returns c = one-byte _ _ (λ i. c .shared-slice-known .given i .fits) (omega arith)
 
 pub u8-at-spec : {M : Type 1} → statement M
-u8-at-spec = tie.close (tie.spec shared-slice-read-result cast-result returns)
+u8-at-spec = tie.close (tie.spec (λ c. search needs) cast-result returns)

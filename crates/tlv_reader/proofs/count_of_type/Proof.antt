@@ -21,12 +21,6 @@ step c = seen _ _ (c .before .before .element-from .ensures) (c .t .given .1)
 loop-holds : tie.Need-loop-holds Inv-loop μ-loop
 loop-holds c = none-counted
 
-element-from-requires : tie.Need-element-from-requires Inv-loop μ-loop
-element-from-requires c κs = search needs
-
-enum-known-t : tie.Need-enum-known-t Inv-loop μ-loop
-enum-known-t c = search needs
-
 add-n : tie.Need-add-n Inv-loop μ-loop
 add-n c = omega (arith, room (c .before .before .before .before .before .loop .inv) (step (c .before .before)) (c .if1 .taken))
 
@@ -42,14 +36,8 @@ loop-less-2 c = let st = step (c .before .before) in omega arith
 loop-again-2 : tie.Need-loop-again-2 Inv-loop μ-loop
 loop-again-2 c = no-more (c .before .before .before .before .before .loop .inv) (step (c .before .before)) (c .if1 .left)
 
-enum-told : tie.Need-enum-told Inv-loop μ-loop
-enum-told c = search needs
-
 returns : tie.Need-returns Inv-loop μ-loop
 returns c = counted-end (c .before .before .before .loop .inv) (seen _ _ (c .before .before .element-from .ensures) (c .enum-told .given .1))
-
-enum-told-2 : tie.Need-enum-told-2 Inv-loop μ-loop
-enum-told-2 c = search needs
 
 returns-2 : tie.Need-returns-2 Inv-loop μ-loop
 returns-2 c = counted-broken (c .before .before .before .loop .inv) (seen _ _ (c .before .before .element-from .ensures) (c .enum-told2 .given .1))
@@ -61,14 +49,14 @@ count-of-type-spec =
     Inv-loop
     μ-loop
     loop-holds
-    element-from-requires
-    enum-known-t
+    (λ c κs. search needs)
+    (λ c. search needs)
     add-n
     loop-less
     loop-again
     loop-less-2
     loop-again-2
-    enum-told
+    (λ c. search needs)
     returns
-    enum-told-2
+    (λ c. search needs)
     returns-2)

@@ -4,15 +4,6 @@ use Rattle.tlv_reader.proofs.Laws.{after-found, after-end, after-malfor
 use Rattle.tlv_reader.proofs.place_after.Statement.{statement}
 use Rattle.tlv_reader.proofs.place_after.Tie as tie
 
-enum-known-read : tie.Need-enum-known-read
-enum-known-read c = search needs
-
-enum-told : tie.Need-enum-told
-enum-told c = search needs
-
-enum-told-2 : tie.Need-enum-told-2
-enum-told-2 c = search needs
-
 returns : tie.Need-returns
 returns c = after-found _ (c .before .read .given .1)
 
@@ -23,4 +14,4 @@ returns-3 : tie.Need-returns-3
 returns-3 c = after-malformed _ (c .enum-told2 .given .1)
 
 pub place-after-spec : {M : Type 1} → statement M
-place-after-spec = tie.close (tie.spec enum-known-read enum-told enum-told-2 returns returns-2 returns-3)
+place-after-spec = tie.close (tie.spec (λ c. search needs) (λ c. search needs) (λ c. search needs) returns returns-2 returns-3)

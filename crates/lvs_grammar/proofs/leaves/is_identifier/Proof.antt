@@ -23,9 +23,6 @@ returns c = sym (identifier-empty _ (c .if1 .taken))
 shared-slice-read-is-letter : tie.Need-shared-slice-read-is-letter Inv-loop μ-loop
 shared-slice-read-is-letter c = omega arith
 
-is-letter-requires : tie.Need-is-letter-requires Inv-loop μ-loop
-is-letter-requires c κs = search needs
-
 returns-2 : tie.Need-returns-2 Inv-loop μ-loop
 returns-2 c = sym (identifier-first _ (c .before .before .before .if1 .left) (c .before .is-letter .ensures) (not-true _ (c .if2 .taken)))
 
@@ -34,9 +31,6 @@ loop-holds c = (omega arith, identifier-rest _ (c .before .before .before .if1 .
 
 shared-slice-read-is-letter-or-digit : tie.Need-shared-slice-read-is-letter-or-digit Inv-loop μ-loop
 shared-slice-read-is-letter-or-digit c = omega arith
-
-is-letter-or-digit-requires : tie.Need-is-letter-or-digit-requires Inv-loop μ-loop
-is-letter-or-digit-requires c κs = search needs
 
 returns-3 : tie.Need-returns-3 Inv-loop μ-loop
 returns-3 c =
@@ -67,11 +61,11 @@ is-identifier-spec =
     μ-loop
     returns
     shared-slice-read-is-letter
-    is-letter-requires
+    (λ c κs. search needs)
     returns-2
     loop-holds
     shared-slice-read-is-letter-or-digit
-    is-letter-or-digit-requires
+    (λ c κs. search needs)
     returns-3
     add-i
     loop-less

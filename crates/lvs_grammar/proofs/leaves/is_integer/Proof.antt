@@ -4,15 +4,6 @@ use Rattle.lvs_grammar.proofs.PlainBytes.{sized}
 use Rattle.lvs_grammar.proofs.leaves.is_integer.Statement.{statement}
 use Rattle.lvs_grammar.proofs.leaves.is_integer.Tie as tie
 
-integer-of-requires : tie.Need-integer-of-requires
-integer-of-requires c κs = search needs
-
-enum-told : tie.Need-enum-told
-enum-told c = search needs
-
-enum-told-2 : tie.Need-enum-told-2
-enum-told-2 c = search needs
-
 returns : tie.Need-returns
 returns c = sized _ (c .before .before .integer-of .ensures) (c .enum-told .given .1)
 
@@ -20,4 +11,4 @@ returns-2 : tie.Need-returns-2
 returns-2 c = sized _ (c .before .before .integer-of .ensures) (c .enum-told2 .given .1)
 
 pub is-integer-spec : {M : Type 1} → statement M
-is-integer-spec = tie.close (tie.spec integer-of-requires enum-told enum-told-2 returns returns-2)
+is-integer-spec = tie.close (tie.spec (λ c κs. search needs) (λ c. search needs) (λ c. search needs) returns returns-2)

@@ -6,9 +6,6 @@ use Rattle.lvs_spec.specs.Leaves.{letterOrDigit}
 use Rattle.lvs_grammar.proofs.leaves.is_letter_or_digit.Statement.{statement}
 use Rattle.lvs_grammar.proofs.leaves.is_letter_or_digit.Tie as tie
 
-is-letter-requires : tie.Need-is-letter-requires
-is-letter-requires c κs = search needs
-
 returns : tie.Need-returns
 unfolding letterOrDigit
 returns c = rw (sym (c .before .is-letter .ensures) ∙ c .if1 .taken)
@@ -22,4 +19,4 @@ unfolding letterOrDigit
 returns-3 c = rw (sym (c .before .before .is-letter .ensures) ∙ c .before .if1 .left, le-leb 48 _ (c .if2 .left))
 
 pub is-letter-or-digit-spec : {M : Type 1} → statement M
-is-letter-or-digit-spec = tie.close (tie.spec is-letter-requires returns returns-2 returns-3)
+is-letter-or-digit-spec = tie.close (tie.spec (λ c κs. search needs) returns returns-2 returns-3)

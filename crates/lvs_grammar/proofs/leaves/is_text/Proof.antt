@@ -29,15 +29,6 @@ elsewhere UserFnCall b h = refl
 elsewhere UserFnArg b h = refl
 elsewhere TagSymbol b h = refl
 
-enum-told : tie.Need-enum-told
-enum-told c = search needs
-
-marked-requires : tie.Need-marked-requires
-marked-requires c κs = search needs
-
-is-identifier-requires : tie.Need-is-identifier-requires
-is-identifier-requires c κs = search needs
-
 returns : tie.Need-returns
 unfolding textIn
 returns c = rw (c .before .enum-told .given .1) (c .marked .ensures)
@@ -47,4 +38,4 @@ returns-2 c = c .is-identifier .ensures ∙ elsewhere (c .before .before .before
 
 pub is-text-spec : {M : Type 1} → statement M
 is-text-spec =
-    tie.close (tie.spec enum-told marked-requires is-identifier-requires returns returns-2)
+    tie.close (tie.spec (λ c. search needs) (λ c κs. search needs) (λ c κs. search needs) returns returns-2)

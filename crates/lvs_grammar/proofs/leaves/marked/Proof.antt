@@ -8,23 +8,8 @@ use Rattle.lvs_grammar.proofs.leaves.marked.Tie as tie
 returns : tie.Need-returns
 returns c = sym (marked-empty (c .before .before .args .mark) _ (c .if1 .taken))
 
-shared-slice-read-if2 : tie.Need-shared-slice-read-if2
-shared-slice-read-if2 c = search needs
-
 returns-2 : tie.Need-returns-2
 returns-2 c = sym (marked-other _ _ (c .before .before .if1 .left) (c .if2 .taken))
-
-sub-is-identifier : tie.Need-sub-is-identifier
-sub-is-identifier c = search needs
-
-part-is-identifier-start : tie.Need-part-is-identifier-start
-part-is-identifier-start c = search needs
-
-part-is-identifier-end : tie.Need-part-is-identifier-end
-part-is-identifier-end c = search needs
-
-is-identifier-requires : tie.Need-is-identifier-requires
-is-identifier-requires c κs = search needs
 
 returns-3 : tie.Need-returns-3
 returns-3 c = c .is-identifier .ensures ∙ sym (marked-rest _ _ (c .before .before .before .before .if1 .left) (c .before .before .if2 .left))
@@ -34,10 +19,10 @@ marked-spec =
     tie.close
     (tie.spec
     returns
-    shared-slice-read-if2
+    (λ c. search needs)
     returns-2
-    sub-is-identifier
-    part-is-identifier-start
-    part-is-identifier-end
-    is-identifier-requires
+    (λ c. search needs)
+    (λ c. search needs)
+    (λ c. search needs)
+    (λ c κs. search needs)
     returns-3)

@@ -6,20 +6,8 @@ use Rattle.lvs_grammar.proofs.PlainBytes.{valued}
 use Rattle.lvs_grammar.proofs.leaves.one_component.Statement.{statement}
 use Rattle.lvs_grammar.proofs.leaves.one_component.Tie as tie
 
-element-requires : tie.Need-element-requires
-element-requires c κs = search needs
-
-enum-known-typ : tie.Need-enum-known-typ
-enum-known-typ c = search needs
-
 returns : tie.Need-returns
 returns c = sym (valued _ (c .before .before .before .before .element .ensures) (c .before .before .typ .given .1) ∙ rw (lt-leb _ _ (c .if1 .taken)))
-
-enum-told : tie.Need-enum-told
-enum-told c = search needs
-
-enum-told-2 : tie.Need-enum-told-2
-enum-told-2 c = search needs
 
 returns-2 : tie.Need-returns-2
 returns-2 c = sym (valued _ (c .before .before .before .before .element .ensures) (c .before .before .typ .given .1) ∙ rw (le-leb _ _ (c .if1 .left)))
@@ -34,11 +22,11 @@ pub one-component-spec : {M : Type 1} → statement M
 one-component-spec =
     tie.close
     (tie.spec
-    element-requires
-    enum-known-typ
+    (λ c κs. search needs)
+    (λ c. search needs)
     returns
-    enum-told
-    enum-told-2
+    (λ c. search needs)
+    (λ c. search needs)
     returns-2
     returns-3
     returns-4)

@@ -7,9 +7,6 @@ use Rattle.lvs_grammar.proofs.States.{slot-step}
 use Rattle.lvs_grammar.proofs.order.in_constraint.Statement.{statement}
 use Rattle.lvs_grammar.proofs.order.in_constraint.Tie as tie
 
-slot-requires : tie.Need-slot-requires
-slot-requires c κs = search needs
-
 returns : tie.Need-returns
 unfolding order
 returns c = slot-step constraint (c .before .match .keys1) (c .slot .ensures) refl
@@ -19,4 +16,4 @@ unfolding order
 returns-2 c = refused constraint (c .before .args .state) (c .before .args .typ) (c .match .rest)
 
 pub in-constraint-spec : {M : Type 1} → statement M
-in-constraint-spec = tie.close (tie.spec slot-requires returns returns-2)
+in-constraint-spec = tie.close (tie.spec (λ c κs. search needs) returns returns-2)

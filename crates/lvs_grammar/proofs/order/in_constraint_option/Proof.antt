@@ -7,15 +7,6 @@ use Rattle.lvs_grammar.proofs.States.{slot-step}
 use Rattle.lvs_grammar.proofs.order.in_constraint_option.Statement.{statement}
 use Rattle.lvs_grammar.proofs.order.in_constraint_option.Tie as tie
 
-slot-requires : tie.Need-slot-requires
-slot-requires c κs = search needs
-
-slot-requires-2 : tie.Need-slot-requires-2
-slot-requires-2 c κs = search needs
-
-slot-requires-3 : tie.Need-slot-requires-3
-slot-requires-3 c κs = search needs
-
 returns : tie.Need-returns
 unfolding order
 returns c = slot-step constraintOption (c .before .match .keys1) (c .slot .ensures) refl
@@ -33,4 +24,4 @@ unfolding order
 returns-4 c = refused constraintOption (c .before .args .state) (c .before .args .typ) (c .match .rest)
 
 pub in-constraint-option-spec : {M : Type 1} → statement M
-in-constraint-option-spec = tie.close (tie.spec slot-requires slot-requires-2 slot-requires-3 returns returns-2 returns-3 returns-4)
+in-constraint-option-spec = tie.close (tie.spec (λ c κs. search needs) (λ c κs. search needs) (λ c κs. search needs) returns returns-2 returns-3 returns-4)

@@ -7,15 +7,6 @@ use Rattle.lvs_grammar.proofs.States.{slot-step}
 use Rattle.lvs_grammar.proofs.order.in_pattern_edge.Statement.{statement}
 use Rattle.lvs_grammar.proofs.order.in_pattern_edge.Tie as tie
 
-slot-requires : tie.Need-slot-requires
-slot-requires c κs = search needs
-
-slot-requires-2 : tie.Need-slot-requires-2
-slot-requires-2 c κs = search needs
-
-slot-requires-3 : tie.Need-slot-requires-3
-slot-requires-3 c κs = search needs
-
 returns : tie.Need-returns
 unfolding order
 returns c = slot-step patternEdge (c .before .match .keys1) (c .slot .ensures) refl
@@ -33,4 +24,4 @@ unfolding order
 returns-4 c = refused patternEdge (c .before .args .state) (c .before .args .typ) (c .match .rest)
 
 pub in-pattern-edge-spec : {M : Type 1} → statement M
-in-pattern-edge-spec = tie.close (tie.spec slot-requires slot-requires-2 slot-requires-3 returns returns-2 returns-3 returns-4)
+in-pattern-edge-spec = tie.close (tie.spec (λ c κs. search needs) (λ c κs. search needs) (λ c κs. search needs) returns returns-2 returns-3 returns-4)

@@ -7,12 +7,6 @@ use Rattle.lvs_grammar.proofs.States.{slot-step}
 use Rattle.lvs_grammar.proofs.order.in_user_fn_arg.Statement.{statement}
 use Rattle.lvs_grammar.proofs.order.in_user_fn_arg.Tie as tie
 
-slot-requires : tie.Need-slot-requires
-slot-requires c κs = search needs
-
-slot-requires-2 : tie.Need-slot-requires-2
-slot-requires-2 c κs = search needs
-
 returns : tie.Need-returns
 unfolding order
 returns c = slot-step userFnArg (c .before .match .keys1) (c .slot .ensures) refl
@@ -26,4 +20,4 @@ unfolding order
 returns-3 c = refused userFnArg (c .before .args .state) (c .before .args .typ) (c .match .rest)
 
 pub in-user-fn-arg-spec : {M : Type 1} → statement M
-in-user-fn-arg-spec = tie.close (tie.spec slot-requires slot-requires-2 returns returns-2 returns-3)
+in-user-fn-arg-spec = tie.close (tie.spec (λ c κs. search needs) (λ c κs. search needs) returns returns-2 returns-3)

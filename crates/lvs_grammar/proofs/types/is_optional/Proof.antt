@@ -5,18 +5,6 @@ use Rattle.lvs_grammar.specs.Types.{isOptional}
 use Rattle.lvs_grammar.proofs.types.is_optional.Statement.{statement}
 use Rattle.lvs_grammar.proofs.types.is_optional.Tie as tie
 
-meaning-of-requires : tie.Need-meaning-of-requires
-meaning-of-requires c κs = search needs
-
-enum-told : tie.Need-enum-told
-enum-told c = search needs
-
-enum-told-2 : tie.Need-enum-told-2
-enum-told-2 c = search needs
-
-enum-told-3 : tie.Need-enum-told-3
-enum-told-3 c = search needs
-
 returns : tie.Need-returns
 returns c = rw (c .enum-told .given .1) at (ap isOptional (c .before .before .meaning-of .ensures))
 
@@ -29,4 +17,4 @@ returns-3 c = rw (c .enum-told3 .given .1) at (ap isOptional (c .before .before 
 pub is-optional-spec : {M : Type 1} → statement M
 is-optional-spec =
     tie.close
-    (tie.spec meaning-of-requires enum-told enum-told-2 enum-told-3 returns returns-2 returns-3)
+    (tie.spec (λ c κs. search needs) (λ c. search needs) (λ c. search needs) (λ c. search needs) returns returns-2 returns-3)

@@ -6,9 +6,6 @@ use Rattle.lvs_grammar.proofs.Apart.{unknown-type}
 use Rattle.lvs_grammar.proofs.types.meaning_of.Statement.{statement}
 use Rattle.lvs_grammar.proofs.types.meaning_of.Tie as tie
 
-unknown-type-requires : tie.Need-unknown-type-requires
-unknown-type-requires c κs = search needs
-
 returns : tie.Need-returns
 unfolding meaning lookup knownTypes
 returns c = rw (c .match .keys1)
@@ -85,7 +82,7 @@ pub meaning-of-spec : {M : Type 1} → statement M
 meaning-of-spec =
     tie.close
     (tie.spec
-    unknown-type-requires
+    (λ c κs. search needs)
     returns
     returns-2
     returns-3

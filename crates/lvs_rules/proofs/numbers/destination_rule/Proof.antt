@@ -8,12 +8,6 @@ use Rattle.lvs_rules.proofs.numbers.destination_rule.Tie as tie
 returns : tie.Need-returns
 returns c = names-none _ _ _ (omega arith)
 
-mul-parent : tie.Need-mul-parent
-mul-parent c = search needs
-
-shared-slice-read-parent : tie.Need-shared-slice-read-parent
-shared-slice-read-parent c = search needs
-
 returns-2 : tie.Need-returns-2
 returns-2 c = other-parent _ _ _ (omega arith) (c .if2 .taken)
 
@@ -22,4 +16,4 @@ returns-3 c = its-parent _ _ _ (omega arith) (c .if2 .left)
 
 pub destination-rule-spec : {M : Type 1} → statement M
 destination-rule-spec =
-    tie.close (tie.spec returns mul-parent shared-slice-read-parent returns-2 returns-3)
+    tie.close (tie.spec returns (λ c. search needs) (λ c. search needs) returns-2 returns-3)

@@ -6,9 +6,6 @@ use Rattle.lvs_rules.proofs.Least.{reached, not-reached}
 use Rattle.lvs_rules.proofs.numbers.start_rule.Statement.{statement}
 use Rattle.lvs_rules.proofs.numbers.start_rule.Tie as tie
 
-number-in-requires : tie.Need-number-in-requires
-number-in-requires c κs = search needs
-
 returns : tie.Need-returns
 unfolding startRule
 returns c = rw (← c .before .number-in .ensures) (reached 7 (c .before .before .before .args .n) (c .before .number-in .result) (omega arith))
@@ -18,4 +15,4 @@ unfolding startRule
 returns-2 c = rw (← c .before .number-in .ensures) (not-reached 7 (c .before .before .before .args .n) (c .before .number-in .result) (omega arith))
 
 pub start-rule-spec : {M : Type 1} → statement M
-start-rule-spec = tie.close (tie.spec number-in-requires returns returns-2)
+start-rule-spec = tie.close (tie.spec (λ c κs. search needs) returns returns-2)

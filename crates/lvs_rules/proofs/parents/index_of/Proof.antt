@@ -5,9 +5,6 @@ use Rattle.lvs_rules.specs.Lowest.{parentFrom}
 use Rattle.lvs_rules.proofs.parents.index_of.Statement.{statement}
 use Rattle.lvs_rules.proofs.parents.index_of.Tie as tie
 
-cast-result : tie.Need-cast-result
-cast-result c = search needs
-
 returns : tie.Need-returns
 unfolding parentFrom
 returns c = simp (lt-ltb _ _ (c .if1 .taken))
@@ -17,4 +14,4 @@ unfolding parentFrom
 returns-2 c = simp (le-ltb _ _ (c .if1 .left))
 
 pub index-of-spec : {M : Type 1} → statement M
-index-of-spec = tie.close (tie.spec cast-result returns returns-2)
+index-of-spec = tie.close (tie.spec (λ c. search needs) returns returns-2)

@@ -11,51 +11,21 @@ use Rattle.tlv.proofs.Place.element.Tie as tie
 returns : tie.Need-returns
 returns c = sym (at-end _ _ (c .if1 .taken))
 
-shared-slice-read-typ : tie.Need-shared-slice-read-typ
-shared-slice-read-typ c = search needs
-
 cast-typ : tie.Need-cast-typ
 cast-typ c = omega (arith, c .shared-slice-known2 .given (c .before .before .before .args .self .at))
-
-wide-element-requires : tie.Need-wide-element-requires
-wide-element-requires c κs = search needs
-
-returns-2 : tie.Need-returns-2
-returns-2 c = search needs
 
 returns-3 : tie.Need-returns-3
 returns-3 c = sym (malformed-type _ _ (omega arith) (byte _ _ (omega arith) (omega arith)) (type-low (c .if3 .taken)))
 
-add-middle : tie.Need-add-middle
-add-middle c = search needs
-
 returns-4 : tie.Need-returns-4
 returns-4 c = sym (no-length _ _ (omega arith) (byte _ _ (omega arith) (omega arith)) (type-ok (omega arith) (omega arith)) (no-byte _ (c .before .before .before .before .before .before .args .self .at + 1) (omega arith)))
-
-shared-slice-read-len : tie.Need-shared-slice-read-len
-shared-slice-read-len c = search needs
 
 cast-len : tie.Need-cast-len
 cast-len c = omega (arith, c .shared-slice-known3 .given (c .before .before .before .before .before .before .before .args .self .at + 1))
 
-wide-element-requires-2 : tie.Need-wide-element-requires-2
-wide-element-requires-2 c κs = search needs
-
-returns-5 : tie.Need-returns-5
-returns-5 c = search needs
-
-add-start : tie.Need-add-start
-add-start c = search needs
-
-sub-if6 : tie.Need-sub-if6
-sub-if6 c = search needs
-
 returns-6 : tie.Need-returns-6
 returns-6 c =
     sym (too-long _ _ (omega arith) (byte _ _ (omega arith) (omega arith)) (type-ok (omega arith) (omega arith)) (byte _ _ (omega arith) (omega arith)) (c .if6 .taken))
-
-add-end : tie.Need-add-end
-add-end c = search needs
 
 returns-7 : tie.Need-returns-7
 returns-7 c =
@@ -66,19 +36,19 @@ element-spec =
     tie.close
     (tie.spec
     returns
-    shared-slice-read-typ
+    (λ c. search needs)
     cast-typ
-    wide-element-requires
-    returns-2
+    (λ c κs. search needs)
+    (λ c. search needs)
     returns-3
-    add-middle
+    (λ c. search needs)
     returns-4
-    shared-slice-read-len
+    (λ c. search needs)
     cast-len
-    wide-element-requires-2
-    returns-5
-    add-start
-    sub-if6
+    (λ c κs. search needs)
+    (λ c. search needs)
+    (λ c. search needs)
+    (λ c. search needs)
     returns-6
-    add-end
+    (λ c. search needs)
     returns-7)

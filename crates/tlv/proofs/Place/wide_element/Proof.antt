@@ -10,15 +10,6 @@ use Rattle.tlv.proofs.Place.wide_element.Tie as tie
 returns : tie.Need-returns
 returns c = sym (at-end _ _ (c .if1 .taken))
 
-number-requires : tie.Need-number-requires
-number-requires c κs = search needs
-
-enum-known-t : tie.Need-enum-known-t
-enum-known-t c = search needs
-
-enum-told : tie.Need-enum-told
-enum-told c = search needs
-
 returns-2 : tie.Need-returns-2
 returns-2 c = sym (no-type _ _ (omega arith) (numbered _ _ (c .before .before .number .ensures) (c .enum-told .given .1)))
 
@@ -31,15 +22,6 @@ returns-4 : tie.Need-returns-4
 returns-4 c =
     let k = c .before .before .before in
     sym (malformed-type _ _ (omega arith) (numbered _ _ (k .before .before .number .ensures) (k .t .given .1)) (type-high (c .before .if2 .left) (c .if3 .taken)))
-
-number-requires-2 : tie.Need-number-requires-2
-number-requires-2 c κs = search needs
-
-enum-known-len : tie.Need-enum-known-len
-enum-known-len c = search needs
-
-enum-told-2 : tie.Need-enum-told-2
-enum-told-2 c = search needs
 
 returns-5 : tie.Need-returns-5
 returns-5 c =
@@ -60,9 +42,6 @@ returns-6 c =
 cast-typ : tie.Need-cast-typ
 cast-typ c = omega arith
 
-add-end : tie.Need-add-end
-add-end c = search needs
-
 returns-7 : tie.Need-returns-7
 returns-7 c =
     let l = c .before .before in
@@ -75,18 +54,18 @@ wide-element-spec =
     tie.close
     (tie.spec
     returns
-    number-requires
-    enum-known-t
-    enum-told
+    (λ c κs. search needs)
+    (λ c. search needs)
+    (λ c. search needs)
     returns-2
     returns-3
     returns-4
-    number-requires-2
-    enum-known-len
-    enum-told-2
+    (λ c κs. search needs)
+    (λ c. search needs)
+    (λ c. search needs)
     returns-5
     sub-left
     returns-6
     cast-typ
-    add-end
+    (λ c. search needs)
     returns-7)
