@@ -6,7 +6,8 @@
 -- That each call ends, and does nothing undefined, is what the check proves of every function of these crates. Nothing is assumed: the
 -- libraries rest on no axiom and declare no C function. Not covered are the compiler's back end, and the programs' input and output.
 --
--- The format, the walk and the refusal numbers are described in docs/format.md, and defined in crates/lvs_spec/specs/.
+-- The format, the walk and the refusal numbers are described in docs/format.md and defined in crates/lvs_spec/specs/; its Demands.antt has the
+-- terms used here, such as `SomeMatch`.
 use Prim.Native.Nat.{ℕ, _≤_}
 use mathlib.Core.Path.{_≡_, sym, ap, _∙_}
 use mathlib.Core.Logic.{_↔_}
@@ -32,6 +33,7 @@ use Rattle.lvs_spec.proofs.Signing.{SignedBy, sign-allowed, sign-some, sign-non
 use Rattle.lvs_spec.proofs.Buffer.{refused-keeps, no-match-keeps, answer-by-length}
 use Rattle.lvs_spec.proofs.Unnamed.{accepted-same}
 use Rattle.lvs_spec.proofs.Demand3.{bare-alike, critical-refused, version-refused}
+use Rattle.lvs_spec.proofs.Optional.{optional-alike}
 use Rattle.lvs.specs.Answers.{verdictOf, matchAnswerOf, signAnswerOf}
 use Rattle.lvs.specs.declared.Verdict.{Verdict}
 use Rattle.lvs.specs.declared.Verdict.the-variants as verdicts
@@ -44,13 +46,15 @@ use Rattle.lvs.proofs.judge_model.Reads as judge-model
 use Rattle.lvs.proofs.match_name.Reads as match-name
 use Rattle.lvs.proofs.sign.Reads as sign
 
--- ---- what a caller learns. `Asked` and `Learnt` are generated from a call's `requires` and `ensures`: what its caller has to show, and what it
--- then knows of the slices at entry, the answer and the slices at exit
+-- ---- what a caller learns
+--
+-- `Asked` and `Learnt` are generated from a call's `requires` and `ensures`: what its caller has to show, and what it then knows of the slices
+-- passed, the answer, and the slices after the call. How long the slices live and where they lie is left open.
 
 abbrev pub Slice : Type 0
 Slice = RefT (List ℕ)
 
--- a call of `judge_model` with a slice that holds `model` answered r. Where the slice lies, and how long it lives, is left open
+-- a call of `judge_model` with a slice that holds `model` answered r
 pub record Judged (model : List ℕ) (r : Verdict) : Type 0 where
   pub lives : Lfts 1
   pub m : Slice
@@ -62,8 +66,7 @@ pub record Matched (model name buffer : List ℕ) (r : MatchAnswer) (after : Lis
   pub m : Slice
   pub n : Slice
   pub b : Slice
-  pub learnt : match-name.Learnt lives (at-last m model, (at-last n name, (at-last b buffer, tt))) r
-      (at-last m model, (at-last n name, (at-last b after, tt)))
+  pub learnt : match-name.Learnt lives (at-last m model, (at-last n name, (at-last b buffer, tt))) r (at-last m model, (at-last n name, (at-last b after, tt)))
 
 -- a call of `sign` answered r
 pub record Signed (model packet key : List ℕ) (r : SignAnswer) : Type 0 where
@@ -71,10 +74,9 @@ pub record Signed (model packet key : List ℕ) (r : SignAnswer) : Type 0 where
   pub m : Slice
   pub p : Slice
   pub k : Slice
-  pub learnt : sign.Learnt lives (at-last m model, (at-last p packet, (at-last k key, tt))) r
-      (at-last m model, (at-last p packet, (at-last k key, tt)))
+  pub learnt : sign.Learnt lives (at-last m model, (at-last p packet, (at-last k key, tt))) r (at-last m model, (at-last p packet, (at-last k key, tt)))
 
--- so much has to be known of a call: its answer, and each word of the buffer, are those of the definitions
+-- the answer of each call, and every word of the buffer after it, are those of the definitions
 pub judged-is : {model : List ℕ} {r : Verdict} → Judged model r → verdictOf r ≡ verdict model
 judged-is c = c .learnt
 
@@ -85,7 +87,7 @@ matched-is c = c .learnt
 pub signed-is : {model packet key : List ℕ} {r : SignAnswer} → Signed model packet key r → signAnswerOf r ≡ signAnswer model packet key
 signed-is c = c .learnt
 
--- and nothing is asked of the caller
+-- nothing is asked of a caller
 pub judge-asks-nothing : (lives : Lfts 1) (m : Slice) → judge-model.Asked lives (m, tt)
 judge-asks-nothing lives m = tt
 
@@ -95,83 +97,83 @@ match-asks-nothing lives m n b = tt
 pub sign-asks-nothing : (lives : Lfts 2) (m p k : Slice) → sign.Asked lives (m, (p, (k, tt)))
 sign-asks-nothing lives m p k = tt
 
--- the parts of a match call's outcome
-answered : {model name buffer after : List ℕ} {r : MatchAnswer} → Matched model name buffer r after → matchAnswerOf r ≡ matchOutcome model name buffer .answer
-answered c = ap (λ (o : Outcome). o .answer) (matched-is c)
+-- ---- the verdict call
 
-left : {model name buffer after : List ℕ} {r : MatchAnswer} → Matched model name buffer r after → after ≡ matchOutcome model name buffer .words
-left c = ap (λ (o : Outcome). o .words) (matched-is c)
-
--- ---- demand 1: a refused call leaves the buffer as it was, and so does "no match"
-
-pub refused-keeps-buffer : {model name buffer after : List ℕ} {number node : ℕ} → Matched model name buffer (matchings.Refused number node) after
-    → after ≡ buffer
-refused-keeps-buffer {model} {name} {buffer} c = left c ∙ refused-keeps model name buffer _ (sym (answered c))
-
-pub no-match-keeps-buffer : {model name buffer after : List ℕ} → Matched model name buffer matchings.NoMatch after → after ≡ buffer
-no-match-keeps-buffer {model} {name} {buffer} c = left c ∙ no-match-keeps model name buffer (sym (answered c))
-
--- and a call gives only the refusals of the inputs that it takes
+-- a refusal is one of a model
 pub judge-refusals : {model : List ℕ} {number node : ℕ} → Judged model (verdicts.Refused number node) → List·Memᴰ number modelRefusals
 judge-refusals {model} c = verdict-number model (sym (judged-is c))
 
-pub match-refusals : {model name buffer after : List ℕ} {number node : ℕ} → Matched model name buffer (matchings.Refused number node) after
-    → List·Memᴰ number matchRefusals
-match-refusals {model} {name} {buffer} c = match-number model name buffer _ (sym (answered c))
+-- ---- the match call
 
-pub sign-refusals : {model packet key : List ℕ} {number node : ℕ} → Signed model packet key (signings.Refused number node) → List·Memᴰ number signRefusals
-sign-refusals {model} {packet} {key} c = sign-number model packet key _ (sym (signed-is c))
+module _ {model name buffer after : List ℕ} where
+  answered : {r : MatchAnswer} → Matched model name buffer r after → matchAnswerOf r ≡ matchOutcome model name buffer .answer
+  answered c = ap (λ (o : Outcome). o .answer) (matched-is c)
 
--- ---- demand 2: what is answered is what the definition of the walk finds, and the first of it
+  left : {r : MatchAnswer} → Matched model name buffer r after → after ≡ matchOutcome model name buffer .words
+  left c = ap (λ (o : Outcome). o .words) (matched-is c)
 
--- a match exactly when there is one, "no match" exactly when there is none
-pub match-exactly : {model name buffer after : List ℕ} {r : MatchAnswer} → Matched model name buffer r after
-    → ((v n : ℕ) × (r ≡ matchings.Match v n)) ↔ SomeMatch model name buffer
-match-exactly {model} {name} {buffer} {r = r} c = (
-  λ (v, n, e). match-some model name buffer .0 (v, n, sym (answered c) ∙ ap matchAnswerOf e),
-  λ s. let (v, n, e) = match-some model name buffer .1 s in (v, n, same-matching r _ (answered c ∙ e)),
-)
+  -- a refused call leaves the buffer as it was, and so does "no match"
+  pub refused-keeps-buffer : {number node : ℕ} → Matched model name buffer (matchings.Refused number node) after → after ≡ buffer
+  refused-keeps-buffer c = left c ∙ refused-keeps model name buffer _ (sym (answered c))
 
-pub no-match-exactly : {model name buffer after : List ℕ} {r : MatchAnswer} → Matched model name buffer r after
-    → (r ≡ matchings.NoMatch) ↔ NoMatch model name buffer
-no-match-exactly {model} {name} {buffer} {r = r} c = (
-  λ e. match-none model name buffer .0 (sym (answered c) ∙ ap matchAnswerOf e),
-  λ s. same-matching r _ (answered c ∙ match-none model name buffer .1 s),
-)
+  pub no-match-keeps-buffer : Matched model name buffer matchings.NoMatch after → after ≡ buffer
+  no-match-keeps-buffer c = left c ∙ no-match-keeps model name buffer (sym (answered c))
 
--- the match is the first; n Tags are bound, and the buffer holds their places, and then what it held
-pub first-match : {model name buffer after : List ℕ} {v n : ℕ} → Matched model name buffer (matchings.Match v n) after
-    → MatchedBy model name buffer v n after
-first-match {model} {name} {buffer} {v = v} {n = n} c =
-    rw (left c) (match-matched model name buffer v n (sym (answered c)))
+  -- a refusal is one of a model, a packet name or a buffer
+  pub match-refusals : {number node : ℕ} → Matched model name buffer (matchings.Refused number node) after → List·Memᴰ number matchRefusals
+  match-refusals c = match-number model name buffer _ (sym (answered c))
+
+  -- a match is answered exactly when there is one
+  pub match-exactly : {r : MatchAnswer} → Matched model name buffer r after → ((v n : ℕ) × (r ≡ matchings.Match v n)) ↔ SomeMatch model name buffer
+  match-exactly {r} c = (
+    λ (v, n, e). match-some model name buffer .0 (v, n, sym (answered c) ∙ ap matchAnswerOf e),
+    λ s. let (v, n, e) = match-some model name buffer .1 s in (v, n, same-matching r _ (answered c ∙ e)),
+  )
+
+  -- "no match" exactly when there is none
+  pub no-match-exactly : {r : MatchAnswer} → Matched model name buffer r after → (r ≡ matchings.NoMatch) ↔ NoMatch model name buffer
+  no-match-exactly {r} c = (
+    λ e. match-none model name buffer .0 (sym (answered c) ∙ ap matchAnswerOf e),
+    λ s. same-matching r _ (answered c ∙ match-none model name buffer .1 s),
+  )
+
+  -- it is the first; n Tags are bound, and the buffer holds their places, and after these what it held
+  pub first-match : {v n : ℕ} → Matched model name buffer (matchings.Match v n) after → MatchedBy model name buffer v n after
+  first-match {v} {n} c = rw (left c) (match-matched model name buffer v n (sym (answered c)))
 
 -- the answer does not depend on what the buffer holds, only on its length
-pub buffer-unread : {model name buffer other after last : List ℕ} {r q : MatchAnswer} → length buffer ≡ length other → Matched model name buffer r after
-    → Matched model name other q last → r ≡ q
+pub buffer-unread : {model name buffer other after last : List ℕ} {r q : MatchAnswer} → length buffer ≡ length other
+    → Matched model name buffer r after → Matched model name other q last → r ≡ q
 buffer-unread {model} {name} {buffer} {other} {r = r} {q = q} l c d =
     same-matching r q (answered c ∙ answer-by-length model name buffer other l ∙ sym (answered d))
 
--- "allowed" exactly when some packet match, and some key match that starts from its bindings, end at a node and at a signer which that node
--- lists; "not allowed" exactly when none do
-pub allowed-exactly : {model packet key : List ℕ} {r : SignAnswer} → Signed model packet key r
-    → ((p k : ℕ) × (r ≡ signings.Allowed p k)) ↔ SomeAllowed model packet key
-allowed-exactly {model} {packet} {key} {r} c = (
-  λ (p, k, e). sign-some model packet key .0 (p, k, sym (signed-is c) ∙ ap signAnswerOf e),
-  λ s. let (p, k, e) = sign-some model packet key .1 s in (p, k, same-signing r _ (signed-is c ∙ e)),
-)
+-- ---- the signing call
 
-pub not-allowed-exactly : {model packet key : List ℕ} {r : SignAnswer} → Signed model packet key r
-    → (r ≡ signings.NotAllowed) ↔ NoneAllowed model packet key
-not-allowed-exactly {model} {packet} {key} {r} c = (
-  λ e. sign-none model packet key .0 (sym (signed-is c) ∙ ap signAnswerOf e),
-  λ s. same-signing r _ (signed-is c ∙ sign-none model packet key .1 s),
-)
+module _ {model packet key : List ℕ} where
+  -- a refusal is one of a model, a packet name or a key name
+  pub sign-refusals : {number node : ℕ} → Signed model packet key (signings.Refused number node) → List·Memᴰ number signRefusals
+  sign-refusals c = sign-number model packet key _ (sym (signed-is c))
 
--- the pair is the first: packet matches in order, for each the key matches in order
-pub first-pair : {model packet key : List ℕ} {p k : ℕ} → Signed model packet key (signings.Allowed p k) → SignedBy model packet key p k
-first-pair {model} {packet} {key} {p} {k} c = sign-allowed model packet key p k (sym (signed-is c))
+  -- "allowed" exactly when some packet match, and some key match that starts from its bindings, end at a node and at a signer which
+  -- that node lists
+  pub allowed-exactly : {r : SignAnswer} → Signed model packet key r → ((p k : ℕ) × (r ≡ signings.Allowed p k)) ↔ SomeAllowed model packet key
+  allowed-exactly {r} c = (
+    λ (p, k, e). sign-some model packet key .0 (p, k, sym (signed-is c) ∙ ap signAnswerOf e),
+    λ s. let (p, k, e) = sign-some model packet key .1 s in (p, k, same-signing r _ (signed-is c ∙ e)),
+  )
 
--- ---- demand 3: what the answers do not depend on, and what is refused
+  -- "not allowed" exactly when none do
+  pub not-allowed-exactly : {r : SignAnswer} → Signed model packet key r → (r ≡ signings.NotAllowed) ↔ NoneAllowed model packet key
+  not-allowed-exactly {r} c = (
+    λ e. sign-none model packet key .0 (sym (signed-is c) ∙ ap signAnswerOf e),
+    λ s. same-signing r _ (signed-is c ∙ sign-none model packet key .1 s),
+  )
+
+  -- the pair is the first: packet matches in order, for each the key matches in order
+  pub first-pair : {p k : ℕ} → Signed model packet key (signings.Allowed p k) → SignedBy model packet key p k
+  first-pair {p} {k} c = sign-allowed model packet key p k (sym (signed-is c))
+
+-- ---- all three calls: elements that change nothing, and elements that are refused
 
 -- two models have the same matches and signing answers and leave the same words, given the same names and equal buffers
 pub record SameAnswers (a b : List ℕ) : Type 0 where
@@ -218,7 +220,12 @@ refused-calls s =
       signed = λ {packet} {key} {r} c. same-signing r _ (signed-is c ∙ s .signed packet key);
     }
 
--- taking out every unknown optional element changes no answer and no word. (What `bare` takes out is proved in lvs_spec/proofs/Gaps.antt)
+-- an optional element x in any gap changes no answer and no word, unless the model becomes too long
+pub optional-ignored : (b b′ : List ℕ) (m : Model) (x : Element) → Bytes b → Bytes b′ → reading b ≡ describes m → meaning (x .type) ≡ optional
+    → typeInRange (x .type) ≡ true → Inserted x b b′ → length b′ ≤ maxModelBytes → SameCalls b′ b
+optional-ignored b b′ m x bytes bytes′ r o t i l = same-calls (optional-alike b b′ m x bytes bytes′ r o t i l)
+
+-- nor does taking out every one. (That `bare` takes out these and nothing else is proved in lvs_spec/proofs/Gaps.antt)
 pub optional-changes-nothing : (b : List ℕ) (m : Model) → Bytes b → reading b ≡ describes m → SameCalls (bare b) b
 optional-changes-nothing b m bytes r = same-calls (bare-alike b m bytes r)
 
@@ -230,8 +237,8 @@ texts-change-nothing {a} {b} {i} {j} c d e =
     same-answers (s .0) (s .1)
 
 -- a critical element x in any gap makes all three calls refuse with 2, unless the model becomes too long
-pub critical-refuses : (b b′ : List ℕ) (m : Model) (x : Element) → reading b ≡ describes m → meaning (x .type) ≡ critical → typeInRange (x .type) ≡ true
-    → Inserted x b b′ → length b′ ≤ maxModelBytes → RefusedCalls 2 b′
+pub critical-refuses : (b b′ : List ℕ) (m : Model) (x : Element) → reading b ≡ describes m → meaning (x .type) ≡ critical
+    → typeInRange (x .type) ≡ true → Inserted x b b′ → length b′ ≤ maxModelBytes → RefusedCalls 2 b′
 critical-refuses b b′ m x r c t i l = refused-calls (critical-refused b b′ m x r c t i l)
 
 -- another version, after optional elements and before any bytes, makes all three refuse with 3, unless the model is too long
