@@ -1,19 +1,21 @@
 #!/usr/bin/env python3
 """The speed of lvs_cases and of the reference checker (reference/, in Rust, release build) on the same cases, and the ratios.
 
-usage: speed.py [WORD..]    only the rows whose name has one of the words; none: all, in about six minutes
+usage: speed.py [WORD..]    only the rows whose name has one of the words; none: all, in about four minutes
 
 A case is run many times by both programs. What reading and printing it costs is taken off: the same run with a model of the same length
 whose first byte is wrong, which both refuse at once. Instructions are counted by valgrind --tool=callgrind. The ratio of the times is
 the median over several turns, in each of which both programs run one after the other; its least and largest value stand after it. `a
 byte` is our instructions for each byte of the model.
 
-Below these stand the walks alone: the instructions inside `lvs_walk::walk` and inside the reference's `walk_from`, without the verdict, the
-names and the places of the Nodes, which the reference finds while it judges; our pass that records the places is a column of its own. The
-last line is the stack that a level of our walk takes, read off the program.
+Below these stand the same calls without the verdict's share: the instructions that a call takes to read its two names and to walk, ours and
+the reference's, and those of the walk alone. The places of the Nodes, which the reference finds while it judges, are not in them; our pass
+that records them is a column of its own. For the bushy models it is the mean over pairs of names drawn evenly. The last line is the stack
+that a level of our walk takes, read off the program.
 """
 import os
 import pathlib
+import random
 import re
 import resource
 import subprocess
@@ -125,12 +127,22 @@ def bushy(words):
     return build.model(*nodes, patterns=8)
 
 
+ALIKE = [f"w{i:02}" for i in range(15)]  # values that differ at their end only
+
+
 def bushy_models():
-    model = bushy(INSTRUMENTS)
-    yield "bushy, by values", model, build.path("/bass/piano"), build.path("/bass/piano")
-    yield "bushy, by a pattern", model, build.path("/bass/tenor"), build.path("/bass/tenor")
-    alike = bushy([f"w{i:02}" for i in range(15)])
-    yield "bushy, values that differ at the end", alike, build.path("/w13/w14"), build.path("/w13/w14")
+    name = build.path("/bass/piano")
+    yield "bushy", bushy(INSTRUMENTS), name, name
+    name = build.path("/w13/w14")
+    yield "bushy, values alike", bushy(ALIKE), name, name
+
+
+def drawn(words, count):
+    """Signing calls on a bushy model, with names that lead to a signer: the first step by a value, the second by a value or by the pattern."""
+    draw, model = random.Random(1), bushy(words)
+    for _ in range(count):
+        name = build.path(f"/{draw.choice(words[:14])}/{draw.choice(words + ['other'])}")
+        yield build.sign(model, name, name)
 
 
 def backtracking():
@@ -207,11 +219,25 @@ def row(what, model, case):
     print(f"{what:<40}{ours:>12.0f}{theirs:>12.0f}{ours / theirs:>8.2f}{times[TURNS // 2]:>8.2f}{spread:>16}{ours / len(model):>8.1f}", flush=True)
 
 
-def walk_row(what, case):
-    ours = instructions(PROGRAMS[0], case, "lvs_walk::walk")
-    places = instructions(PROGRAMS[0], case, "lvs_edges::nodes::node_places")
-    theirs = instructions(PROGRAMS[1], case, "*walk_from*")
-    print(f"{what:<40}{ours:>12.0f}{theirs:>12.0f}{ours / theirs:>8.2f}{places:>12.0f}", flush=True)
+def walks():
+    """(what, cases)"""
+    for what, model, packet, key in signings():
+        if "bushy" not in what:
+            yield what, [build.sign(model, packet, key)]
+    yield "bushy", list(drawn(INSTRUMENTS, 48))
+    yield "bushy, values alike", list(drawn(ALIKE, 48))
+
+
+NAMES, WALK, PLACES = "lvs_names::read_name", "lvs_walk::walk", "lvs_edges::nodes::node_places"
+THEIR_NAMES, THEIR_WALK = "*Name*load*", "*walk_from*"
+
+
+def walk_row(what, cases):
+    ours, theirs = (lambda *inside, program=program: instructions(program, b"".join(cases), *inside) / len(cases) for program in PROGRAMS)
+    walk, their_walk = ours(WALK), theirs(THEIR_WALK)
+    request, their_request = walk + ours(NAMES), their_walk + theirs(THEIR_NAMES)
+    print(f"{what:<28}{request:>10.0f}{their_request:>10.0f}{request / their_request:>7.2f}"
+          f"{walk:>12.0f}{their_walk:>12.0f}{walk / their_walk:>7.2f}{ours(PLACES):>9.0f}", flush=True)
 
 
 def frame():
@@ -230,10 +256,10 @@ def main():
     for what, model, case in workloads():
         if wanted(what):
             row(what, model, case)
-    print(f"\n{'the walk alone':<40}{'ours':>12}{'reference':>12}{'ratio':>8}{'places':>12}")
-    for what, model, packet, key in signings():
+    print(f"\n{'without the verdict':<28}{'ours':>10}{'reference':>10}{'ratio':>7}{'our walk':>12}{'their walk':>12}{'ratio':>7}{'places':>9}")
+    for what, cases in walks():
         if wanted(what):
-            walk_row(what, build.sign(model, packet, key))
+            walk_row(what, cases)
     print(f"\na level of the walk takes {frame()} bytes of the stack")
 
 

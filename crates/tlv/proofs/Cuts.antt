@@ -11,7 +11,8 @@ use lib.Dec.{leb}
 use lib.ListN.{length, take, drop, getD, length-drop}
 use lib.Seq.{drop-drop, length-take-le}
 use Rattle.tlv.specs.Number.{Num, unreadable, num, number}
-use Rattle.tlv.specs.Element.{Element, First, first, end, malformed, element, typed, sized, typeInRange, Cuts, done, broken, next, after, cutsBy, cuts, also, split}
+use Rattle.tlv.specs.Element.{Element, First, first, end, malformed, element, typed, sized, typeInRange, Cuts, done, broken, next, after}
+use Rattle.tlv.specs.Element.{cutsBy, cuts, also, split}
 use Rattle.tlv.specs.Answers.{readAt, readFrom}
 use Rattle.tlv.specs.declared.Place.{Place}
 use Rattle.tlv.specs.declared.Read.{Read}

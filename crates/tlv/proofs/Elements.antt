@@ -55,7 +55,8 @@ module _ (s : List ℕ) (at : ℕ) where
           pub found : n ≤ length s - start → readAt s at ≡ Found t start (start + n) (record { at = start + n })
           unfolding readAt sized
           found le =
-              let e : length (take n (drop (T .size + L .size) (drop at s))) ≡ n = length-take-le n _ (rw (length-drop (T .size + L .size) (drop at s), left) le) in
+              let e : length (take n (drop (T .size + L .size) (drop at s))) ≡ n = length-take-le n _
+              (rw (length-drop (T .size + L .size) (drop at s), left) le) in
               rw (sized-is, L .is, left, le-leb _ _ le) (rw (e, ← head))
 
 pub type-low : {t : ℕ} → t < 1 → typeInRange t ≡ false

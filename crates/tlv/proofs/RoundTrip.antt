@@ -12,9 +12,11 @@ use lib.ListN.{length, take, drop, length-append, length-drop, take-append-drop}
 use lib.Seq.{take-at, drop-append-seam, drop-append-add, take-append-seam, drop-drop, length-take-le}
 use Rattle.tlv.specs.Bytes.{Bytes, bigEndian, bigEndianBytes}
 use Rattle.tlv.specs.Number.{num, width, least, mark, wide, number, numberBytes, integerSize, integer}
-use Rattle.tlv.specs.Element.{Element, First, first, end, malformed, element, typed, sized, typeInRange, Cuts, done, broken, next, cuts, whole, split, elementBytes, encode, InRange, Each, nexts}
+use Rattle.tlv.specs.Element.{Element, First, first, end, malformed, element, typed, sized, typeInRange, Cuts, done, broken, next, cuts, whole}
+use Rattle.tlv.specs.Element.{split, elementBytes, encode, InRange, Each, nexts}
 use Rattle.tlv.specs.declared.Place.{Place}
-use Rattle.tlv.proofs.Bytes.{bytes-left, bytes-right, bytes-append, bytes-spelled, bytes-drop, bytes-take, big-lt, length-spelled, big-spelled, spelled-big}
+use Rattle.tlv.proofs.Bytes.{bytes-left, bytes-right, bytes-append, bytes-spelled, bytes-drop, bytes-take, big-lt, length-spelled, big-spelled}
+use Rattle.tlv.proofs.Bytes.{spelled-big}
 use Rattle.tlv.proofs.Numbers.{Shape, one, many, shape, unreadable-num}
 use Rattle.tlv.proofs.Cuts.{Step, Whole, element-whole, cuts-next, cuts-end, cuts-malformed, none-some, also-some, element-nil, done-nil}
 
@@ -50,11 +52,18 @@ pub number-back : (n : ℕ) (r : List ℕ) → n < 2 ^ 64 → number (numberByte
 unfolding numberBytes number
 number-back n r h = go (ltb n 253) refl
   where
-    go : (t : Bool) → ltb n 253 ≡ t → number (cond t (n ∷ []) (mark n ∷ bigEndianBytes (width (mark n)) n) ++ r) ≡ num n (length (cond t (n ∷ []) (mark n ∷ bigEndianBytes (width (mark n)) n)))
+    go : (t : Bool) → ltb n 253 ≡ t
+        → number (cond t (n ∷ []) (mark n ∷ bigEndianBytes (width (mark n)) n) ++ r) ≡ num n (length (cond t (n ∷ []) (mark n ∷ bigEndianBytes (width (mark n)) n)))
     go true e = rw e
     go false e =
         let m = marked n (ltb-false _ _ e) h in
-        rw (le-ltb _ _ (m .wide-mark), wide-back (width (mark n)) (least (mark n)) n r (m .low) (m .high), length-spelled (width (mark n)) n, one-add (width (mark n)))
+        rw (
+          le-ltb _ _ (m .wide-mark),
+          wide-back (width (mark n)) (least (mark n)) n r (m .low) (m .high),
+          length-spelled (width (mark n)) n,
+          one-add
+              (width (mark n)),
+        )
 
 pub numberBytes-bytes : (n : ℕ) → n < 2 ^ 64 → Bytes (numberBytes n)
 unfolding numberBytes
@@ -145,8 +154,21 @@ element-back e r ok =
     let di : drop (length T + length L) b ≡ I ++ r = drop-append-add T (L ++ (I ++ r)) (length L) ∙ drop-append-seam L (I ++ r) in
     let dr : drop (length T + length L + length I) b ≡ r = sym (drop-drop (length I) (length T + length L) b) ∙ rw di (drop-append-seam I r) in
     let lb : length b ≡ length T + (length L + (length I + length r)) = simp length-append in
-    let le : length I ≤ length b - (length T + length L) = omega arith in
-    (length T + length L, rw (eb, element-typed b (e .type) (length T) nt, ok .type-ok, dt, nl, le-leb (length I) (length b - (length T + length L)) le, di, take-append-seam I r, dr))
+    let le : length I ≤ length b - (length T + length L) = omega arith in (
+      length T + length L,
+      rw (
+        eb,
+        element-typed b (e .type) (length T) nt,
+        ok .type-ok,
+        dt,
+        nl,
+        le-leb (length I)
+            (length b - (length T + length L)) le,
+        di,
+        take-append-seam I r,
+        dr,
+      ),
+    )
 
 whole-bytes : (b : List ℕ) {h : ℕ} {e : Element} {r : List ℕ} → Bytes b → Whole b h e r → elementBytes e ++ r ≡ b
 unfolding elementBytes
@@ -170,7 +192,11 @@ module _ (b : List ℕ) {h : ℕ} {e : Element} {r : List ℕ} (by : Bytes b) (p
   pub element-fits : InRange e
   element-fits =
       let w = element-whole b h e r p in
-      record { type-ok = w .ok; length-ok = rw (w .inside-length) (number-fits (drop (w .type-size) b) (w .size) (w .length-size) (bytes-drop (w .type-size) b by) (w .sized-is)) }
+      record {
+        type-ok = w .ok;
+        length-ok = rw (w .inside-length)
+            (number-fits (drop (w .type-size) b) (w .size) (w .length-size) (bytes-drop (w .type-size) b by) (w .sized-is));
+      }
 
 -- an element that was read takes as many bytes as its encoding
 pub element-size : (b : List ℕ) {h : ℕ} {e : Element} {r : List ℕ} → Bytes b → element b ≡ first h e r

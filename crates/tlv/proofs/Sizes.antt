@@ -31,7 +31,8 @@ size-is n = go (ltb n 253) (ltb n 65536) (ltb n 4294967296) refl refl refl
 pub numberBytes-mono : (m n : ℕ) → m ≤ n → length (numberBytes m) ≤ length (numberBytes n)
 unfolding size
 numberBytes-mono m n h =
-    rw (size-is m, size-is n) (go (ltb m 253) (ltb m 65536) (ltb m 4294967296) (ltb n 253) (ltb n 65536) (ltb n 4294967296) (down 253) (down 65536) (down 4294967296))
+    rw (size-is m, size-is n) (go (ltb m 253) (ltb m 65536) (ltb m 4294967296) (ltb n 253) (ltb n 65536) (ltb n 4294967296) (down 253) (down 65536)
+    (down 4294967296))
   where
     down : (c : ℕ) → ltb n c ≡ true → ltb m c ≡ true
     down c t = let g : n < c = ltb-true n c t in lt-ltb m c (omega arith)

@@ -17,7 +17,8 @@ loop-holds : tie.Need-loop-holds Inv-loop μ-loop
 loop-holds c = tt
 
 loop-less : tie.Need-loop-less Inv-loop μ-loop
-loop-less c = omega (arith, seen _ _ (c .before .before .before .before .before .before .element-from .ensures) (c .before .before .before .before .typ .given .1))
+loop-less c =
+    omega (arith, seen _ _ (c .before .before .before .before .before .before .element-from .ensures) (c .before .before .before .before .typ .given .1))
 
 loop-again : tie.Need-loop-again Inv-loop μ-loop
 loop-again c = tt

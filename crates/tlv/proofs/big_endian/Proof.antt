@@ -23,10 +23,13 @@ returns-3 : tie.Need-returns-3
 returns-3 c = rw (c .before .if3 .taken) (c .u32-at .ensures)
 
 u64-at-requires : tie.Need-u64-at-requires
-u64-at-requires c κs = let e = eight (c .before .before .before .before .pre .0) (c .before .before .if1 .left) (c .before .if2 .left) (c .if3 .left) in omega arith
+u64-at-requires c κs =
+    let e = eight (c .before .before .before .before .pre .0) (c .before .before .if1 .left) (c .before .if2 .left) (c .if3 .left) in omega arith
 
 returns-4 : tie.Need-returns-4
-returns-4 c = rw (eight (c .before .before .before .before .before .pre .0) (c .before .before .before .if1 .left) (c .before .before .if2 .left) (c .before .if3 .left)) (c .u64-at .ensures)
+returns-4 c =
+    rw (eight (c .before .before .before .before .before .pre .0) (c .before .before .before .if1 .left) (c .before .before .if2 .left)
+    (c .before .if3 .left)) (c .u64-at .ensures)
 
 pub big-endian-spec : {M : Type 1} → statement M
 big-endian-spec =

@@ -39,4 +39,5 @@ returns-5 c =
 pub number-spec : {M : Type 1} → statement M
 number-spec =
     tie.close
-    (tie.spec returns (λ c. search needs) (λ c. search needs) (λ c. search needs) returns-2 (λ c κs. search needs) (λ c. search needs) returns-3 big-endian-requires (λ c κs. search needs) returns-4 (λ c. search needs) returns-5)
+    (tie.spec returns (λ c. search needs) (λ c. search needs) (λ c. search needs) returns-2 (λ c κs. search needs)
+    (λ c. search needs) returns-3 big-endian-requires (λ c κs. search needs) returns-4 (λ c. search needs) returns-5)

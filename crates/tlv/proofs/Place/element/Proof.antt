@@ -18,18 +18,22 @@ returns-3 : tie.Need-returns-3
 returns-3 c = sym (malformed-type _ _ (omega arith) (byte _ _ (omega arith) (omega arith)) (type-low (c .if3 .taken)))
 
 returns-4 : tie.Need-returns-4
-returns-4 c = sym (no-length _ _ (omega arith) (byte _ _ (omega arith) (omega arith)) (type-ok (omega arith) (omega arith)) (no-byte _ (c .before .before .before .before .before .before .args .self .at + 1) (omega arith)))
+returns-4 c =
+    sym (no-length _ _ (omega arith) (byte _ _ (omega arith) (omega arith)) (type-ok (omega arith) (omega arith))
+    (no-byte _ (c .before .before .before .before .before .before .args .self .at + 1) (omega arith)))
 
 cast-len : tie.Need-cast-len
 cast-len c = omega (arith, c .shared-slice-known3 .given (c .before .before .before .before .before .before .before .args .self .at + 1))
 
 returns-6 : tie.Need-returns-6
 returns-6 c =
-    sym (too-long _ _ (omega arith) (byte _ _ (omega arith) (omega arith)) (type-ok (omega arith) (omega arith)) (byte _ _ (omega arith) (omega arith)) (c .if6 .taken))
+    sym (too-long _ _ (omega arith) (byte _ _ (omega arith) (omega arith)) (type-ok (omega arith) (omega arith))
+    (byte _ _ (omega arith) (omega arith)) (c .if6 .taken))
 
 returns-7 : tie.Need-returns-7
 returns-7 c =
-    sym (found _ _ (omega arith) (byte _ _ (omega arith) (omega arith)) (type-ok (omega arith) (omega arith)) (byte _ _ (omega arith) (omega arith)) (c .if6 .left))
+    sym (found _ _ (omega arith) (byte _ _ (omega arith) (omega arith)) (type-ok (omega arith) (omega arith)) (byte _ _ (omega arith) (omega arith))
+    (c .if6 .left))
 
 pub element-spec : {M : Type 1} → statement M
 element-spec =

@@ -21,13 +21,15 @@ returns-3 c =
 returns-4 : tie.Need-returns-4
 returns-4 c =
     let k = c .before .before .before in
-    sym (malformed-type _ _ (omega arith) (numbered _ _ (k .before .before .number .ensures) (k .t .given .1)) (type-high (c .before .if2 .left) (c .if3 .taken)))
+    sym (malformed-type _ _ (omega arith) (numbered _ _ (k .before .before .number .ensures) (k .t .given .1))
+    (type-high (c .before .if2 .left) (c .if3 .taken)))
 
 returns-5 : tie.Need-returns-5
 returns-5 c =
     let m = c .before .before in
     let k = m .before .before .before .before in
-    sym (no-length _ _ (omega arith) (numbered _ _ (k .before .before .number .ensures) (k .t .given .1)) (type-ok (m .before .before .if2 .left) (m .before .if3 .left)) (numbered _ _ (m .number2 .ensures) (c .enum-told2 .given .1)))
+    sym (no-length _ _ (omega arith) (numbered _ _ (k .before .before .number .ensures) (k .t .given .1))
+    (type-ok (m .before .before .if2 .left) (m .before .if3 .left)) (numbered _ _ (m .number2 .ensures) (c .enum-told2 .given .1)))
 
 sub-left : tie.Need-sub-left
 sub-left c = numbered _ _ (c .before .before .before .number2 .ensures) (c .before .len .given .1) .within
@@ -37,7 +39,8 @@ returns-6 c =
     let l = c .before .before in
     let m = l .before .before in
     let k = m .before .before .before .before in
-    sym (too-long _ _ (omega arith) (numbered _ _ (k .before .before .number .ensures) (k .t .given .1)) (type-ok (m .before .before .if2 .left) (m .before .if3 .left)) (numbered _ _ (m .number2 .ensures) (l .len .given .1)) (c .if4 .taken))
+    sym (too-long _ _ (omega arith) (numbered _ _ (k .before .before .number .ensures) (k .t .given .1))
+    (type-ok (m .before .before .if2 .left) (m .before .if3 .left)) (numbered _ _ (m .number2 .ensures) (l .len .given .1)) (c .if4 .taken))
 
 cast-typ : tie.Need-cast-typ
 cast-typ c = omega arith
@@ -47,7 +50,8 @@ returns-7 c =
     let l = c .before .before in
     let m = l .before .before in
     let k = m .before .before .before .before in
-    sym (found _ _ (omega arith) (numbered _ _ (k .before .before .number .ensures) (k .t .given .1)) (type-ok (m .before .before .if2 .left) (m .before .if3 .left)) (numbered _ _ (m .number2 .ensures) (l .len .given .1)) (c .if4 .left))
+    sym (found _ _ (omega arith) (numbered _ _ (k .before .before .number .ensures) (k .t .given .1))
+    (type-ok (m .before .before .if2 .left) (m .before .if3 .left)) (numbered _ _ (m .number2 .ensures) (l .len .given .1)) (c .if4 .left))
 
 pub wide-element-spec : {M : Type 1} → statement M
 wide-element-spec =
