@@ -54,7 +54,8 @@ behind s h e rest w =
   where
     go : length rest ≡ length s - (h + w .size) → (b : Bool) → eqb (length rest) 0 ≡ b → eqb (length rest) 0 ≡ eqb (0 + h + length (e .inside)) (length s)
     go l true q = let z = eqb-true (length rest) 0 q in q ∙ sym (eq-eqb (0 + h + length (e .inside)) (length s) (omega arith))
-    go l false q = q ∙ sym (ne-eqb (0 + h + length (e .inside)) (length s) (λ (x : 0 + h + length (e .inside) ≡ length s). eqb-false (length rest) 0 q (omega arith)))
+    go l false q =
+        q ∙ sym (ne-eqb (0 + h + length (e .inside)) (length s) (λ (x : 0 + h + length (e .inside) ≡ length s). eqb-false (length rest) 0 q (omega arith)))
 
 valued-at : (s : List ℕ) → Valued s (readAt s 0)
 unfolding readAt oneComponent isComponent

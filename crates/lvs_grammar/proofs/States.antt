@@ -64,12 +64,14 @@ step-counted (once ts ∷ items) t = go (member t ts)
     go false = refl
 step-counted (maybe ts ∷ items) t = go (member t ts) refl (step-counted items t)
   where
-    go : (b : Bool) → member t ts ≡ b → step items t ≡ left items (counted items t) → step (maybe ts ∷ items) t ≡ left (maybe ts ∷ items) (counted (maybe ts ∷ items) t)
+    go : (b : Bool) → member t ts ≡ b → step items t ≡ left items (counted items t)
+        → step (maybe ts ∷ items) t ≡ left (maybe ts ∷ items) (counted (maybe ts ∷ items) t)
     go true e r = rw (e, step)
     go false e r = rw (e, step) (r ∙ left-more (maybe ts) items (counted items t))
 step-counted (many ts ∷ items) t = go (member t ts) refl (step-counted items t)
   where
-    go : (b : Bool) → member t ts ≡ b → step items t ≡ left items (counted items t) → step (many ts ∷ items) t ≡ left (many ts ∷ items) (counted (many ts ∷ items) t)
+    go : (b : Bool) → member t ts ≡ b → step items t ≡ left items (counted items t)
+        → step (many ts ∷ items) t ≡ left (many ts ∷ items) (counted (many ts ∷ items) t)
     go true e r = rw (e, step)
     go false e r = rw (e, step) (r ∙ left-more (many ts) items (counted items t))
 

@@ -2,7 +2,8 @@
 use mathlib.Core.Bool.{Bool, true, false}
 use Rattle.lvs_spec.specs.Grammar as grammar
 use Rattle.lvs_grammar.specs.declared.types.Kind.{Kind}
-use Rattle.lvs_grammar.specs.declared.types.Kind.the-variants.{Model, Node, ValueEdge, PatternEdge, Constraint, ConstraintOption, UserFnCall, UserFnArg, TagSymbol}
+use Rattle.lvs_grammar.specs.declared.types.Kind.the-variants.{Model, Node, ValueEdge, PatternEdge, Constraint, ConstraintOption, UserFnCall}
+use Rattle.lvs_grammar.specs.declared.types.Kind.the-variants.{UserFnArg, TagSymbol}
 use Rattle.lvs_grammar.specs.declared.types.Leaf.{Leaf}
 use Rattle.lvs_grammar.specs.declared.types.Leaf.the-variants.{Version, Integer, Value, Text, FunctionId}
 use Rattle.lvs_grammar.specs.declared.types.Known.{Known}

@@ -3,7 +3,8 @@ use super::types::Kind;
 use lvs_spec::types;
 ghost use mathlib.Core.Path.{_≡_};
 ghost use lib.ListN.{drop};
-ghost use Rattle.lvs_spec.specs.Grammar.{order, step, final, model, node, valueEdge, patternEdge, constraint, constraintOption, userFnCall, userFnArg, tagSymbol};
+ghost use Rattle.lvs_spec.specs.Grammar.{order, step, final, model, node, valueEdge, patternEdge};
+ghost use Rattle.lvs_spec.specs.Grammar.{constraint, constraintOption, userFnCall, userFnArg, tagSymbol};
 ghost use Rattle.lvs_grammar.specs.Types.{kindOf};
 ghost use Rattle.lvs_grammar.specs.States.{leftBehind, Slotted};
 

@@ -17,7 +17,8 @@ use Rattle.lvs_functions.specs.Functions.{functionRead}
 use Rattle.lvs_functions.specs.declared.Function.{Function}
 use Rattle.lvs_functions.specs.declared.Function.the-variants.{Eq, EqType, IsValidId, IsValidYear, Unknown}
 use Rattle.lvs_rules.specs.Lowest.{noRule, broken, leastOf, tagRule, argumentRule, argumentsRule, callRule, termRule, termsRule}
-use Rattle.lvs_rules.specs.Lowest.{optionRule, constraintRule, ownRule, signerRule, destinationRule, valueEdgeRule, patternEdgeRule, nodeRule, symbolRule}
+use Rattle.lvs_rules.specs.Lowest.{optionRule, constraintRule, ownRule, signerRule, destinationRule, valueEdgeRule, patternEdgeRule, nodeRule}
+use Rattle.lvs_rules.specs.Lowest.{symbolRule}
 use Rattle.lvs_rules.specs.Sorts.{typeOf, itemRule}
 use Rattle.lvs_rules.specs.declared.Sort.{Sort}
 use Rattle.lvs_rules.specs.declared.Sort.the-variants as sort

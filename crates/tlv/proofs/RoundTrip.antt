@@ -53,7 +53,8 @@ unfolding numberBytes number
 number-back n r h = go (ltb n 253) refl
   where
     go : (t : Bool) → ltb n 253 ≡ t
-        → number (cond t (n ∷ []) (mark n ∷ bigEndianBytes (width (mark n)) n) ++ r) ≡ num n (length (cond t (n ∷ []) (mark n ∷ bigEndianBytes (width (mark n)) n)))
+        → number (cond t (n ∷ []) (mark n ∷ bigEndianBytes (width (mark n)) n) ++ r) ≡ num n
+        (length (cond t (n ∷ []) (mark n ∷ bigEndianBytes (width (mark n)) n)))
     go true e = rw e
     go false e =
         let m = marked n (ltb-false _ _ e) h in

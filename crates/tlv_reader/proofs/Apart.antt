@@ -36,8 +36,10 @@ module _ {M : Type 1} (𝓤 : URA M) (H : Heap 𝓤) (A : Atoms 𝓤) (W : Given
   pub src-out : ent 𝓤 (sem 𝓤 H A (Own α d)) (sep 𝓤 (sem 𝓤 H A (Src α d)) (sem 𝓤 H A (Own α d)))
   src-out =
       qed W (‵ (Own α d) ∷ []) ∵ use1 W (‵ (Own α d) ⊛ ‵ (Own α d)) (LL.copy (T.the-type α) (T′.the-copy α) 𝓤 H A W .twice d (T′.lowered d ∷ [])) $ split ! $
-      use1 W (given (T′.lowered d ∷ [] ≡ T′.lowered d ∷ []) (‵ (all-own (T.the-type α .parts) (T′.the-laws α) (d .src, (d .at, tt))))) (own-open 𝓤 H A W (T.the-type α) (T′.the-laws α) (d .src, (d .at, tt)) (T′.lowered d)) $ learn ! (λ _.
-      use1 W (‵ (ownAt (T.the-type α .parts) (T′.the-laws α) 0 (d .src)) ⊛ ‵ (rest (T.the-type α .parts) (T′.the-laws α) 0 (d .src, (d .at, tt)))) (own-out 𝓤 H A W (T.the-type α .parts) (T′.the-laws α) 0 (d .src, (d .at, tt))) $ split ! $
+      use1 W (given (T′.lowered d ∷ [] ≡ T′.lowered d ∷ []) (‵ (all-own (T.the-type α .parts) (T′.the-laws α) (d .src, (d .at, tt)))))
+      (own-open 𝓤 H A W (T.the-type α) (T′.the-laws α) (d .src, (d .at, tt)) (T′.lowered d)) $ learn ! (λ _.
+      use1 W (‵ (ownAt (T.the-type α .parts) (T′.the-laws α) 0 (d .src)) ⊛ ‵ (rest (T.the-type α .parts) (T′.the-laws α) 0 (d .src, (d .at, tt))))
+      (own-out 𝓤 H A W (T.the-type α .parts) (T′.the-laws α) 0 (d .src, (d .at, tt))) $ split ! $
       move ! (1 ∷ []) $ drop ! $ frame ! $ done !)
 
 -- what a method that takes the reader by value is given, and what its callee on the slice and the place is
@@ -50,7 +52,9 @@ module _ {M : Type 1} (𝓤 : URA M) (H : Heap 𝓤) (A : Atoms 𝓤) (W : Given
 
   abbrev pub given-parts : SProp 𝓤
   given-parts =
-      ⋆ 𝓤 H A ((‵ (flft κ q) ⊛ ‵ ftrue) ∷ ‵ (owns (ShrSlice (named 0) κ u8 ∷ usize ∷ []) (d .src, (d .at, tt)) (sliceVal (d .src .ptr) (length (d .src .now)) ∷ [], (vint w64 (d .at) ∷ [], tt))) ∷ [])
+      ⋆ 𝓤 H A ((‵ (flft κ q) ⊛ ‵ ftrue) ∷ ‵
+      (owns (ShrSlice (named 0) κ u8 ∷ usize ∷ []) (d .src, (d .at, tt))
+      (sliceVal (d .src .ptr) (length (d .src .now)) ∷ [], (vint w64 (d .at) ∷ [], tt))) ∷ [])
 
   -- what the struct owns gives what the callee asks, and is kept
   pub apart : (pre : SProp 𝓤) → ent 𝓤 given-parts pre → d .at < 2 ^ 64 → ent 𝓤 given-reader (sep 𝓤 pre (sem 𝓤 H A (Own α d)))

@@ -1,4 +1,5 @@
--- A local `Reader` that is lent by `&mut` to `Reader::next`, and comes back. The lifetime of the loan must end before the slice's, κ: it is ν ∷ κ, for a new ν.
+-- A local `Reader` that is lent by `&mut` to `Reader::next`, and comes back. The lifetime of the loan must end before the slice's, κ: it is ν ∷ κ,
+-- for a new ν.
 --     lies-in, lies-out    the local's cell and what the reader owns are the reader in memory, each way
 --     goes-next            what the call asks
 --     begins, ends         from a token of κ, tokens of ν ∷ κ and of κ; and back, with ν ∷ κ dead
@@ -17,7 +18,8 @@ use prog.Wp.{Heap}
 use ghost.Atoms.{Atoms, sem}
 use contract.BorrowLft.{meet-⊑-left, meet-⊑-right}
 use contract.Monad.{Fun}
-use types.Kit.{Given, ‵, raw, _⊛_, ⋆, _$_, _∵_, !, qed, move, use1, use2, apply, split, join, fsplit, fjoin, fpick, fpack, updating, now as at-once, show, frame, done}
+use types.Kit.{Given, ‵, raw, _⊛_, ⋆, _$_, _∵_, !, qed, move, use1, use2, apply, split, join, fsplit, fjoin, fpick, fpack, updating, now as at-once}
+use types.Kit.{show, frame, done}
 use types.Tokens.{lft-new, lft-end}
 use denote.Laws.{Is, shows}
 use denote.Memory.{partOf, mem, cellAt}
@@ -48,25 +50,31 @@ module _ {M : Type 1} (𝓤 : URA M) (H : Heap 𝓤) (A : Atoms 𝓤) (at-mem : 
     abbrev pub to-next : Next .Ghost
     to-next = (((ν ∷ κ, (κ, tt)), (PosShare·left q, (PosShare·right q, tt)), (meet-⊑-right (ν ∷ []) κ, tt), (lent h l δ, tt), (vptr l 0 ∷ [], tt)), tt)
 
-    pub goes-next : Given 𝓤 H A → ent 𝓤 (⋆ 𝓤 H A (‵ (flft (ν ∷ κ) (PosShare·left q)) ∷ ‵ (flft κ (PosShare·right q)) ∷ ‵ (Ref κ h l ν δ) ∷ [])) (Next .pre to-next)
+    pub goes-next : Given 𝓤 H A
+        → ent 𝓤 (⋆ 𝓤 H A (‵ (flft (ν ∷ κ) (PosShare·left q)) ∷ ‵ (flft κ (PosShare·right q)) ∷ ‵ (Ref κ h l ν δ) ∷ [])) (Next .pre to-next)
     goes-next W =
-        qed W (‵ (flft (ν ∷ κ) (PosShare·left q)) ∷ ‵ (flft κ (PosShare·right q)) ∷ ‵ (Ref κ h l ν δ) ∷ []) ∵ nothing ! $ move ! (2 ∷ 0 ∷ []) $ join ! $ move ! (1 ∷ 0 ∷ []) $ join ! $
+        qed W (‵ (flft (ν ∷ κ) (PosShare·left q)) ∷ ‵ (flft κ (PosShare·right q)) ∷ ‵ (Ref κ h l ν δ) ∷ []) ∵ nothing ! $ move ! (2 ∷ 0 ∷ []) $
+        join ! $ move ! (1 ∷ 0 ∷ []) $ join ! $
         nothing ! $ move ! (2 ∷ 0 ∷ []) $ fjoin ! $ move ! (1 ∷ 0 ∷ []) $ join ! $ frame ! $ done !
 
 module _ {M : Type 1} (𝓤 : URA M) (H : Heap 𝓤) (A : Atoms 𝓤) (W : Given 𝓤 H A) (κ : Lft) where
   module _ (h : Reader) (l : ℕ) where
-    pub lies-in : ent 𝓤 (sep 𝓤 (sem 𝓤 H A (fat fullShare (T′.mir erased) l 0 (T′.lowered h))) (sem 𝓤 H A (R κ .own h (T′.lowered h ∷ [])))) (sem 𝓤 H A (mem (R κ) .lies h l 0))
+    pub lies-in : ent 𝓤 (sep 𝓤 (sem 𝓤 H A (fat fullShare (T′.mir erased) l 0 (T′.lowered h))) (sem 𝓤 H A (R κ .own h (T′.lowered h ∷ []))))
+        (sem 𝓤 H A (mem (R κ) .lies h l 0))
     unfolding partOf
     lies-in =
         qed W (‵ (fat fullShare (T′.mir erased) l 0 (T′.lowered h)) ∷ ‵ (R κ .own h (T′.lowered h ∷ [])) ∷ []) ∵
         use1 W (‵ (cellAt fullShare (R κ .mir) (T′.lowered h ∷ []) l 0)) (W .laws .at-raw fullShare (T′.mir erased) l 0 (T′.lowered h)) $ fjoin ! $
         fpack ! (List Val) (λ vs. fsep (cellAt fullShare (R κ .mir) vs l 0) (R κ .own h vs)) (T′.lowered h ∷ []) $ done !
 
-    pub lies-out : ent 𝓤 (sem 𝓤 H A (mem (R κ) .lies h l 0)) (sep 𝓤 (sem 𝓤 H A (fat fullShare (T′.mir erased) l 0 (T′.lowered h))) (sem 𝓤 H A (R κ .own h (T′.lowered h ∷ []))))
+    pub lies-out : ent 𝓤 (sem 𝓤 H A (mem (R κ) .lies h l 0))
+        (sep 𝓤 (sem 𝓤 H A (fat fullShare (T′.mir erased) l 0 (T′.lowered h))) (sem 𝓤 H A (R κ .own h (T′.lowered h ∷ []))))
     unfolding partOf
     lies-out =
         qed W (‵ (mem (R κ) .lies h l 0) ∷ []) ∵ fpick ! (λ vs. fsplit ! $
-        spelt ! (R κ) (Is (R κ)) (shows 𝓤 H A (R κ)) (LL.vals (T.the-type (record { mir = named 1; lft = κ })) (T′.the-laws (record { mir = named 1; lft = κ }))) (LL.tells (T.the-type (record { mir = named 1; lft = κ })) (T′.the-laws (record { mir = named 1; lft = κ }))) fullShare h vs l 0 $
+        spelt ! (R κ) (Is (R κ)) (shows 𝓤 H A (R κ))
+        (LL.vals (T.the-type (record { mir = named 1; lft = κ })) (T′.the-laws (record { mir = named 1; lft = κ })))
+        (LL.tells (T.the-type (record { mir = named 1; lft = κ })) (T′.the-laws (record { mir = named 1; lft = κ }))) fullShare h vs l 0 $
         use1 W (‵ (fat fullShare (T′.mir erased) l 0 (T′.lowered h))) (W .laws .raw-at fullShare (T′.mir erased) l 0 (T′.lowered h)) $ frame ! $ done !)
 
   module _ (q : Share) where

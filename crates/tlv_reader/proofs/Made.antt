@@ -52,11 +52,15 @@ module _ {M : Type 1} (𝓤 : URA M) (H : Heap 𝓤) (A : Atoms 𝓤) (mem : Mem
     to-new = (((κ, tt), (q, tt), tt, (s, (n, tt)), spelled s n), tt)
 
     -- of the slice a copy is kept
-    pub goes-new : Given 𝓤 H A → ent 𝓤 (onEntry 𝓤 H A new.signature (κ, tt) (q, tt) (s, (n, tt)) (spelled s n)) (sep 𝓤 (New .pre to-new) (sem 𝓤 H A (Slice κ s)))
+    pub goes-new : Given 𝓤 H A
+        → ent 𝓤 (onEntry 𝓤 H A new.signature (κ, tt) (q, tt) (s, (n, tt)) (spelled s n)) (sep 𝓤 (New .pre to-new) (sem 𝓤 H A (Slice κ s)))
     goes-new W =
         qed W ((‵ (flft κ q) ⊛ ‵ ftrue) ∷ ‵ (owns (ShrSlice (named 0) κ u8 ∷ usize ∷ []) (s, (n, tt)) (spelled s n)) ∷ []) ∵
         move ! (1 ∷ []) $ fsplit ! $ use1 W (‵ (Slice κ s) ⊛ ‵ (Slice κ s)) (shr-slice-copy 𝓤 H A W (named 0) κ u8 .twice s _) $ split ! $
-        move ! (0 ∷ 2 ∷ []) $ fjoin ! $ move ! (2 ∷ 0 ∷ []) $ use2 W (raw (New .pre to-new)) (qed W ((‵ (flft κ q) ⊛ ‵ ftrue) ∷ ‵ (owns (ShrSlice (named 0) κ u8 ∷ usize ∷ []) (s, (n, tt)) (spelled s n)) ∷ []) ∵ join ! $ frame ! $ done !) $ frame ! $ done !
+        move ! (0 ∷ 2 ∷ []) $ fjoin ! $ move ! (2 ∷ 0 ∷ []) $
+        use2 W (raw (New .pre to-new)) (qed W
+        ((‵ (flft κ q) ⊛ ‵ ftrue) ∷ ‵ (owns (ShrSlice (named 0) κ u8 ∷ usize ∷ []) (s, (n, tt))
+        (spelled s n)) ∷ []) ∵ join ! $ frame ! $ done !) $ frame ! $ done !
 
     pub new-said : (r : Reader) → ent 𝓤 (ensured 𝓤 H A new.ended (new.clauses 𝓤 H A mem run) (κ, tt) (s, (n, tt)) tt r) (fact 𝓤 ((r .src ≡ s) × (r .at ≡ n)))
     new-said r = exE 𝓤 _ (λ ws. snd∗ 𝓤 (sem 𝓤 H A (lasts new.ended (κ, tt) (s, (n, tt)) ws)) (fact 𝓤 ((r .src ≡ s) × (r .at ≡ n))))

@@ -12,7 +12,8 @@ use Rattle.tlv.proofs.Cuts.{seen}
 use Rattle.tlv.proofs.Place.element.Reads as element-reads
 use Rattle.lvs_spec.specs.WellFormed.{insideOk, wellFormedBy}
 use Rattle.lvs_grammar.specs.Types.{kindOf}
-use Rattle.lvs_grammar.proofs.Turns.{formedFrom, formed-none, formed-start, formed-end, formed-broken, formed-optional, formed-critical, formed-refused, formed-bad, formed-on}
+use Rattle.lvs_grammar.proofs.Turns.{formedFrom, formed-none, formed-start, formed-end, formed-broken, formed-optional, formed-critical}
+use Rattle.lvs_grammar.proofs.Turns.{formed-refused, formed-bad, formed-on}
 use Rattle.lvs_grammar.proofs.leaves.leaf_ok.Reads as leaf-ok-reads
 use Rattle.lvs_grammar.proofs.order.may_end.Reads as may-end-reads
 use Rattle.lvs_grammar.proofs.order.next_state.Reads as next-state-reads
@@ -87,7 +88,8 @@ formed-calls t = (
   inside.Post,
 )
 
-abbrev formed-need : (formed-lts.Claims → In 1 formed-kinds.ps → Out 1 formed-kinds.ps formed-kinds.r → formed-lts.InvT-loop → formed-lts.MeasureT-loop → Type 0) → ℕ → Type 0
+abbrev formed-need : (formed-lts.Claims → In 1 formed-kinds.ps → Out 1 formed-kinds.ps formed-kinds.r → formed-lts.InvT-loop
+    → formed-lts.MeasureT-loop → Type 0) → ℕ → Type 0
 formed-need N t = N (formed-calls t) (formed-at t) formed.Post Inv-loop μ-loop
 
 formed-returns : (t : ℕ) → formed-need formed-lts.Need-returns t
@@ -141,7 +143,8 @@ formed-returns-5 t c =
     let y = m .before .before in
     let e = y .before .before in
     let l = e .before in
-    sym (l .loop .inv ∙ formed-refused _ _ _ _ _ (e .element .ensures) (y .typ .given .1) _ (m .meaning-of .ensures) (k .known .given .1) _ (n .next-state .ensures) (c .enum-told5 .given .1))
+    sym (l .loop .inv ∙ formed-refused _ _ _ _ _ (e .element .ensures) (y .typ .given .1) _ (m .meaning-of .ensures) (k .known .given .1) _
+    (n .next-state .ensures) (c .enum-told5 .given .1))
 
 formed-sub-inside-ok : (t : ℕ) → formed-need formed-lts.Need-sub-inside-ok t
 formed-sub-inside-ok t c =
@@ -176,7 +179,8 @@ formed-returns-6 t c =
     let y = m .before .before in
     let e = y .before .before in
     let l = e .before in
-    sym (l .loop .inv ∙ formed-bad _ _ _ _ _ (e .element .ensures) (y .typ .given .1) _ (m .meaning-of .ensures) (k .known .given .1) _ (n .next-state .ensures) (q .q .given .1) (c .before .inside-ok .ensures) (not-true _ (c .if2 .taken)))
+    sym (l .loop .inv ∙ formed-bad _ _ _ _ _ (e .element .ensures) (y .typ .given .1) _ (m .meaning-of .ensures) (k .known .given .1) _
+    (n .next-state .ensures) (q .q .given .1) (c .before .inside-ok .ensures) (not-true _ (c .if2 .taken)))
 
 formed-loop-less-2 : (t : ℕ) → formed-need formed-lts.Need-loop-less-2 t
 formed-loop-less-2 t c =
@@ -193,7 +197,8 @@ formed-loop-again-2 t c =
     let y = m .before .before in
     let e = y .before .before in
     let l = e .before in
-    l .loop .inv ∙ formed-on _ _ _ _ _ (e .element .ensures) (y .typ .given .1) _ (m .meaning-of .ensures) (k .known .given .1) _ (n .next-state .ensures) (q .q .given .1) (c .before .inside-ok .ensures) (not-false _ (c .if2 .left))
+    l .loop .inv ∙ formed-on _ _ _ _ _ (e .element .ensures) (y .typ .given .1) _ (m .meaning-of .ensures) (k .known .given .1) _
+    (n .next-state .ensures) (q .q .given .1) (c .before .inside-ok .ensures) (not-false _ (c .if2 .left))
 
 pub +inside-ok+well-formed-spec : {M : Type 1} → statement M
 +inside-ok+well-formed-spec = close μ-inside μ-formed (λ t. inside-lts.spec (inside-calls t)

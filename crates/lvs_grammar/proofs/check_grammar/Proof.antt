@@ -17,11 +17,21 @@ returns-2 c = rw (le-ltb _ _ (c .before .before .if1 .left), sym (c .before .oth
 
 returns-3 : tie.Need-returns-3
 unfolding readingOf tooLong wellFormed
-returns-3 c = rw (le-ltb _ _ (c .before .before .before .before .if1 .left), sym (c .before .before .before .other-version .ensures) ∙ c .before .before .if2 .left, sym (c .before .well-formed .ensures) ∙ c .if3 .taken)
+returns-3 c =
+    rw (
+      le-ltb _ _ (c .before .before .before .before .if1 .left),
+      sym (c .before .before .before .other-version .ensures) ∙ c .before .before .if2 .left,
+      sym (c .before .well-formed .ensures) ∙ c .if3 .taken,
+    )
 
 returns-4 : tie.Need-returns-4
 unfolding readingOf tooLong wellFormed
-returns-4 c = rw (le-ltb _ _ (c .before .before .before .before .if1 .left), sym (c .before .before .before .other-version .ensures) ∙ c .before .before .if2 .left, sym (c .before .well-formed .ensures) ∙ c .if3 .left)
+returns-4 c =
+    rw (
+      le-ltb _ _ (c .before .before .before .before .if1 .left),
+      sym (c .before .before .before .other-version .ensures) ∙ c .before .before .if2 .left,
+      sym (c .before .well-formed .ensures) ∙ c .if3 .left,
+    )
 
 pub check-grammar-spec : {M : Type 1} → statement M
 check-grammar-spec =

@@ -50,7 +50,8 @@ returns-3 c =
     let y = o .before .before in
     let e = y .before .before in
     let l = e .before in
-    c .is-other-version .ensures ∙ sym (l .loop .inv ∙ other-first _ _ (e .element .ensures) (y .typ .given .1) (o .is-optional .ensures) (not-true _ (c .before .before .if1 .taken)))
+    c .is-other-version .ensures ∙ sym
+    (l .loop .inv ∙ other-first _ _ (e .element .ensures) (y .typ .given .1) (o .is-optional .ensures) (not-true _ (c .before .before .if1 .taken)))
 
 loop-less : tie.Need-loop-less Inv-loop μ-loop
 loop-less c =

@@ -1,4 +1,5 @@
--- `tlv_reader::inside_from` meets its contract: a walk of its MIR, by hand. The `Reader` that `new` returns is passed to `inside`, and of the one that this returns the slice is handed back. All that the proof knows of the two is that each meets its contract.
+-- `tlv_reader::inside_from` meets its contract: a walk of its MIR, by hand. The `Reader` that `new` returns is passed to `inside`, and of the one
+-- that this returns the slice is handed back. All that the proof knows of the two is that each meets its contract.
 -- Assumes nothing.
 use mathlib.Core.Path.{_≡_, refl}
 use Prim.Native.Nat.{ℕ, _<_, _^_}
@@ -16,9 +17,11 @@ use prog.Wp.{Heap, Calls, Loops, WpFn, Tables}
 use ghost.Atoms.{Atoms, sem}
 use contract.Monad.{Fun, fact}
 use contract.Running.{givenOf, tables, tablesOf}
-use types.Kit.{Given, ‵, raw, _⊛_, ⋆, some, later, _$_, _∵_, !, qed, by, move, keep, use1, use2, split, join, pick, rewrite, fjoin, suffices, frame, await, done}
+use types.Kit.{Given, ‵, raw, _⊛_, ⋆, some, later, _$_, _∵_, !, qed, by, move, keep, use1, use2, split, join, pick, rewrite, fjoin, suffices, frame}
+use types.Kit.{await, done}
 use types.Part.{whole, sub, look-in}
-use types.Run.{look, init, forget, stop, fld, from, load, of-opd, and-then, no-more, assigns, land, returns, enter, alloc1, alloc0, params1, pass1, pass0, free1, free0}
+use types.Run.{look, init, forget, stop, fld, from, load, of-opd, and-then, no-more, assigns, land, returns, enter, alloc1, alloc0, params1, pass1}
+use types.Run.{pass0, free1, free0}
 use sound.WpLaws.{FmC, fmOf, WpFn-mono}
 use denote.Laws.{Is, shows}
 use denote.Plain.{uint-makes, uint-vals, uint-tells}
@@ -61,7 +64,8 @@ module _ {M : Type 1} (𝓤 : URA M) (H : Heap 𝓤) (A : Atoms 𝓤) (mem : Mem
   abbrev Inside : Contract 𝓤
   Inside = tripleOf 𝓤 H A inside.signature (inside.spec 𝓤 H A mem run)
 
-module _ {M : Type 1} (𝓤 : URA M) (H : Heap 𝓤) (A : Atoms 𝓤) (W : Given 𝓤 H A) (at-mem : Memory → SProp 𝓤) (run : Routine → Fun 𝓤) (κ : Lft) (q : Share) (s : RefT (List ℕ)) (n : ℕ) (fits : n < 2 ^ 64) where
+module _ {M : Type 1} (𝓤 : URA M) (H : Heap 𝓤) (A : Atoms 𝓤) (W : Given 𝓤 H A) (at-mem : Memory → SProp 𝓤) (run : Routine → Fun 𝓤) (κ : Lft)
+    (q : Share) (s : RefT (List ℕ)) (n : ℕ) (fits : n < 2 ^ 64) where
   -- the machine value that s has
   abbrev v : Val
   v = sliceVal (s .ptr) (length (s .now))
@@ -81,61 +85,84 @@ module _ {M : Type 1} (𝓤 : URA M) (H : Heap 𝓤) (A : Atoms 𝓤) (W : Given
   to-inside u = (((κ, tt), (q, tt), tt, (h, tt), (u ∷ [], tt)), tt)
 
   goes-inside : (u : Val) → ent 𝓤 (⋆ 𝓤 H A (‵ (R κ .own h (u ∷ [])) ∷ (‵ (flft κ q) ⊛ ‵ ftrue) ∷ [])) (Inside 𝓤 H A at-mem run .pre (to-inside u))
-  goes-inside u = qed W (‵ (R κ .own h (u ∷ [])) ∷ (‵ (flft κ q) ⊛ ‵ ftrue) ∷ []) ∵ nothing ! $ move ! (1 ∷ 0 ∷ []) $ fjoin ! $ move ! (1 ∷ 0 ∷ []) $ join ! $ frame ! $ done !
+  goes-inside u =
+      qed W (‵ (R κ .own h (u ∷ [])) ∷ (‵ (flft κ q) ⊛ ‵ ftrue) ∷ []) ∵ nothing ! $ move ! (1 ∷ 0 ∷ []) $ fjoin ! $ move ! (1 ∷ 0 ∷ []) $ join ! $
+      frame ! $ done !
 
-  inside-said : (d : Reader) → ent 𝓤 (ensured 𝓤 H A inside.ended (inside.clauses 𝓤 H A at-mem run) (κ, tt) (h, tt) tt d) (fact 𝓤 ((now (d .src) ≡ found) × (d .at ≡ 0)))
+  inside-said : (d : Reader)
+      → ent 𝓤 (ensured 𝓤 H A inside.ended (inside.clauses 𝓤 H A at-mem run) (κ, tt) (h, tt) tt d) (fact 𝓤 ((now (d .src) ≡ found) × (d .at ≡ 0)))
   inside-said d = exE 𝓤 _ (λ ws. snd∗ 𝓤 (sem 𝓤 H A (lasts inside.ended (κ, tt) (h, tt) ws)) (fact 𝓤 ((now (d .src) ≡ found) × (d .at ≡ 0))))
 
   -- the lifetime, as `Apart.antt` takes it
   abbrev α : NamedLft
   α = record { mir = named 1; lft = κ }
 
-  exits : (d : Reader) → now (d .src) ≡ found → ent 𝓤 (⋆ 𝓤 H A (‵ (Src α d) ∷ (‵ (flft κ q) ⊛ ‵ ftrue) ∷ ‵ (Slice κ s) ∷ [])) (Post (sliceVal (d .src .ptr) (length (d .src .now))))
+  exits : (d : Reader) → now (d .src) ≡ found
+      → ent 𝓤 (⋆ 𝓤 H A (‵ (Src α d) ∷ (‵ (flft κ q) ⊛ ‵ ftrue) ∷ ‵ (Slice κ s) ∷ [])) (Post (sliceVal (d .src .ptr) (length (d .src .now))))
   exits d e =
       qed W (‵ (Src α d) ∷ (‵ (flft κ q) ⊛ ‵ ftrue) ∷ ‵ (Slice κ s) ∷ []) ∵
-      suffices ! _ (ends-at 𝓤 H A this.ended stayed (this.clauses 𝓤 H A at-mem run) W (((κ, tt), (q, tt), tt, (s, (n, tt)), spelled s n), tt) (sliceVal (d .src .ptr) (length (d .src .now))) (d .src) (tt, (tt, tt)) (tt, (tt, tt))) $ says ! e $
-      move ! (1 ∷ []) $ frame ! $ nothing ! $ owned ! usize (Is usize) (uint-makes 𝓤 H A W w64) n _ (refl, fits) $ fjoin ! $ move ! (2 ∷ 0 ∷ []) $ fjoin ! $ frame ! $ done !
+      suffices ! _ (ends-at 𝓤 H A this.ended stayed (this.clauses 𝓤 H A at-mem run) W (((κ, tt), (q, tt), tt, (s, (n, tt)), spelled s n), tt)
+      (sliceVal (d .src .ptr) (length (d .src .now))) (d .src) (tt, (tt, tt)) (tt, (tt, tt))) $ says ! e $
+      move ! (1 ∷ []) $ frame ! $ nothing ! $ owned ! usize (Is usize) (uint-makes 𝓤 H A W w64) n _ (refl, fits) $ fjoin ! $ move ! (2 ∷ 0 ∷ []) $
+      fjoin ! $ frame ! $ done !
 
-  module _ (C : Calls 𝓤 H) (Λ : Loops 𝓤 H) (fm : FmC 𝓤 H (W .laws) C) (known-new : Triple 𝓤 (C #new) (New 𝓤 H A at-mem run)) (known-inside : Triple 𝓤 (C #inside) (Inside 𝓤 H A at-mem run)) where
-    walk : Is (ShrSlice (named 0) κ u8) s (v ∷ []) → ent 𝓤 (onEntry 𝓤 H A this.signature (κ, tt) (q, tt) (s, (n, tt)) (spelled s n)) (WpFn 𝓤 H C Λ code.function (v ∷ vint w64 n ∷ []) Post)
+  module _ (C : Calls 𝓤 H) (Λ : Loops 𝓤 H) (fm : FmC 𝓤 H (W .laws) C) (known-new : Triple 𝓤 (C #new) (New 𝓤 H A at-mem run))
+      (known-inside : Triple 𝓤 (C #inside) (Inside 𝓤 H A at-mem run)) where
+    walk : Is (ShrSlice (named 0) κ u8) s (v ∷ [])
+        → ent 𝓤 (onEntry 𝓤 H A this.signature (κ, tt) (q, tt) (s, (n, tt)) (spelled s n)) (WpFn 𝓤 H C Λ code.function (v ∷ vint w64 n ∷ []) Post)
     walk p =
         qed W (raw (onEntry 𝓤 H A this.signature (κ, tt) (q, tt) (s, (n, tt)) (spelled s n)) ∷ []) ∵ enter ! C Λ code.function (v ∷ vint w64 n ∷ []) _ $
         alloc1 ! (λ l₀. alloc1 ! (λ l₁. alloc1 ! (λ l₂. alloc1 ! (λ l₃. alloc1 ! (λ l₄. alloc0 ! $ params1 ! $
-        pass1 ! (init ! 6 refl (shr-slice-lawful 𝓤 H A W (named 0) κ u8 .typed s (v ∷ []) p .0)) $ pass1 ! (init ! 4 refl (tt, record { fits = fits })) $ pass0 ! $
+        pass1 ! (init ! 6 refl (shr-slice-lawful 𝓤 H A W (named 0) κ u8 .typed s (v ∷ []) p .0)) $
+        pass1 ! (init ! 4 refl (tt, record { fits = fits })) $ pass0 ! $
         -- `new`
-        move ! (10 ∷ []) $ use1 W (raw (New 𝓤 H A at-mem run .pre (to-new 𝓤 H A at-mem run κ q s n)) ⊛ ‵ (Slice κ s)) (goes-new 𝓤 H A at-mem run κ q s n W) $ split ! $
-        calls-at ! fm (New 𝓤 H A at-mem run) known-new (to-new 𝓤 H A at-mem run κ q s n) (and-then ! (load ! (from ! (stop !)) (look ! 8 refl)) (and-then ! (load ! (from ! (stop !)) (look ! 6 refl)) (no-more !))) (λ u.
-        use1 W (later (some (λ (r : Reader). ((‵ (flft κ q) ⊛ ‵ ftrue) ⊛ ‵ (R κ .own r (u ∷ []))) ⊛ raw (ensured 𝓤 H A new.ended (new.clauses 𝓤 H A at-mem run) (κ, tt) (s, (n, tt)) tt r)))) (id⊢ 𝓤 _) $ await ! tt $ pick ! (λ r.
-        split ! $ move ! (1 ∷ []) $ use1 W (raw (fact 𝓤 ((r .src ≡ s) × (r .at ≡ n)))) (new-said 𝓤 H A at-mem run κ q s n r) $ heard ! ((r .src ≡ s) × (r .at ≡ n)) (λ e. split ! $ move ! (1 ∷ []) $
+        move ! (10 ∷ []) $
+        use1 W (raw (New 𝓤 H A at-mem run .pre (to-new 𝓤 H A at-mem run κ q s n)) ⊛ ‵ (Slice κ s)) (goes-new 𝓤 H A at-mem run κ q s n W) $ split ! $
+        calls-at ! fm (New 𝓤 H A at-mem run) known-new (to-new 𝓤 H A at-mem run κ q s n)
+        (and-then ! (load ! (from ! (stop !)) (look ! 8 refl)) (and-then ! (load ! (from ! (stop !)) (look ! 6 refl)) (no-more !))) (λ u.
+        use1 W (later (some (λ (r : Reader). ((‵ (flft κ q) ⊛ ‵ ftrue) ⊛ ‵ (R κ .own r (u ∷ []))) ⊛
+        raw (ensured 𝓤 H A new.ended (new.clauses 𝓤 H A at-mem run) (κ, tt) (s, (n, tt)) tt r)))) (id⊢ 𝓤 _) $ await ! tt $ pick ! (λ r.
+        split ! $ move ! (1 ∷ []) $ use1 W (raw (fact 𝓤 ((r .src ≡ s) × (r .at ≡ n)))) (new-said 𝓤 H A at-mem run κ q s n r) $
+        heard ! ((r .src ≡ s) × (r .at ≡ n)) (λ e. split ! $ move ! (1 ∷ []) $
         rewrite ! 0 (λ (d : Reader). ‵ (R κ .own d (u ∷ []))) (λ i. record { src = e .0 i; at = e .1 i }) refl $
         -- [what the reader owns; the token; what s owns; room for _4; …; _3; …; _2; …; _1; …; room for _0; …]
         peeks ! (R κ) (Is (R κ)) (shows 𝓤 H A (R κ)) h (u ∷ []) (λ is. land ! (from ! (stop !)) (init ! 3 refl (typed κ h u is 𝓤 H A W)) $
         -- `inside`
         use2 W (raw (Inside 𝓤 H A at-mem run .pre (to-inside u))) (goes-inside u) $
         calls-at ! fm (Inside 𝓤 H A at-mem run) known-inside (to-inside u) (and-then ! (load ! (from ! (stop !)) (look ! 2 refl)) (no-more !)) (λ w.
-        use1 W (later (some (λ (d : Reader). ((‵ (flft κ q) ⊛ ‵ ftrue) ⊛ ‵ (R κ .own d (w ∷ []))) ⊛ raw (ensured 𝓤 H A inside.ended (inside.clauses 𝓤 H A at-mem run) (κ, tt) (h, tt) tt d)))) (id⊢ 𝓤 _) $ await ! tt $ pick ! (λ d.
-        split ! $ move ! (1 ∷ []) $ use1 W (raw (fact 𝓤 ((now (d .src) ≡ found) × (d .at ≡ 0)))) (inside-said d) $ heard ! ((now (d .src) ≡ found) × (d .at ≡ 0)) (λ f. split ! $ move ! (1 ∷ []) $
+        use1 W (later (some (λ (d : Reader). ((‵ (flft κ q) ⊛ ‵ ftrue) ⊛ ‵ (R κ .own d (w ∷ []))) ⊛
+        raw (ensured 𝓤 H A inside.ended (inside.clauses 𝓤 H A at-mem run) (κ, tt) (h, tt) tt d)))) (id⊢ 𝓤 _) $ await ! tt $ pick ! (λ d.
+        split ! $ move ! (1 ∷ []) $ use1 W (raw (fact 𝓤 ((now (d .src) ≡ found) × (d .at ≡ 0)))) (inside-said d) $
+        heard ! ((now (d .src) ≡ found) × (d .at ≡ 0)) (λ f. split ! $ move ! (1 ∷ []) $
         -- [what the reader of the inside owns; the token; what s owns; _4; …; room for _3; …; _2; …; _1; …; room for _0; …]
         peeks ! (R κ) (Is (R κ)) (shows 𝓤 H A (R κ)) d (w ∷ []) (λ was. land ! (from ! (stop !)) (init ! 5 refl (typed κ d w was 𝓤 H A W)) $
-        rewrite ! 5 (λ (z : Val). ‵ (fat fullShare (T′.mir erased) l₃ 0 z)) (spells κ d w was) refl $ rewrite ! 0 (λ (z : Val). ‵ (R κ .own d (z ∷ []))) (spells κ d w was) refl $
+        rewrite ! 5 (λ (z : Val). ‵ (fat fullShare (T′.mir erased) l₃ 0 z)) (spells κ d w was) refl $
+        rewrite ! 0 (λ (z : Val). ‵ (R κ .own d (z ∷ []))) (spells κ d w was) refl $
         peeks ! (R κ) (Is (R κ)) (shows 𝓤 H A (R κ)) d (T′.lowered d ∷ []) (λ low.
-        assigns ! (of-opd ! (load ! (from ! (fld ! refl (stop !))) (look-in ! 5 (sub ! 0 refl (whole !))))) (from ! (stop !)) (init ! 11 refl (tt, typed κ d (T′.lowered d) low 𝓤 H A W .1 .0)) $
+        assigns ! (of-opd ! (load ! (from ! (fld ! refl (stop !))) (look-in ! 5 (sub ! 0 refl (whole !))))) (from ! (stop !))
+        (init ! 11 refl (tt, typed κ d (T′.lowered d) low 𝓤 H A W .1 .0)) $
         use1 W (‵ (Src α d) ⊛ ‵ (Own α d)) (src-out 𝓤 H A W α d) $ split ! $
         returns ! (look ! 12 refl) $ forget ! 4 refl $ forget ! 6 refl $ forget ! 8 refl $ forget ! 10 refl $ forget ! 12 refl $
-        move ! (12 ∷ 13 ∷ []) $ free1 ! $ move ! (10 ∷ 11 ∷ []) $ free1 ! $ move ! (8 ∷ 9 ∷ []) $ free1 ! $ move ! (6 ∷ 7 ∷ []) $ free1 ! $ move ! (4 ∷ 5 ∷ []) $ free1 ! $ free0 ! $
+        move ! (12 ∷ 13 ∷ []) $ free1 ! $ move ! (10 ∷ 11 ∷ []) $ free1 ! $ move ! (8 ∷ 9 ∷ []) $ free1 ! $ move ! (6 ∷ 7 ∷ []) $ free1 ! $
+        move ! (4 ∷ 5 ∷ []) $ free1 ! $ free0 ! $
         keep ! (0 ∷ 2 ∷ 3 ∷ []) $ by ! (exits d (f .0))))))))))))))))
 
 module _ {M : Type 1} (𝓤 : URA M) (H : Heap 𝓤) (A : Atoms 𝓤) (W : Given 𝓤 H A) (mem : Memory → SProp 𝓤) (run : Routine → Fun 𝓤) where
   this-walks : (C : Calls 𝓤 H) (Λ : Loops 𝓤 H) → FmC 𝓤 H (W .laws) C → Triple 𝓤 (C #new) (New 𝓤 H A mem run) → Triple 𝓤 (C #inside) (Inside 𝓤 H A mem run)
       → Walks 𝓤 H A this.ended stayed (WpFn 𝓤 H C Λ code.function) (this.clauses 𝓤 H A mem run)
-  this-walks C Λ fm known-new known-inside = walked 𝓤 H A this.ended stayed (this.clauses 𝓤 H A mem run) (WpFn 𝓤 H C Λ code.function) (λ κs. (slice-vals, (uint-vals w64, tt))) (λ κs. (shr-slice-tells (named 0) (κs .0) u8, (uint-tells w64, tt)))
-      (λ κs qs bounds a g are. via 𝓤 _ (fst∗ 𝓤 _ (emp 𝓤)) (walk 𝓤 H A W mem run (κs .0) (qs .0) (a .0) (a .1 .0) (are .1 .0 .1) C Λ fm known-new known-inside (are .0)))
+  this-walks C Λ fm known-new known-inside =
+      walked 𝓤 H A this.ended stayed (this.clauses 𝓤 H A mem run) (WpFn 𝓤 H C Λ code.function) (λ κs. (slice-vals, (uint-vals w64, tt)))
+      (λ κs. (shr-slice-tells (named 0) (κs .0) u8, (uint-tells w64, tt)))
+      (λ κs qs bounds a g are. via 𝓤 _ (fst∗ 𝓤 _ (emp 𝓤))
+      (walk 𝓤 H A W mem run (κs .0) (qs .0) (a .0) (a .1 .0) (are .1 .0 .1) C Λ fm known-new known-inside (are .0)))
 
 this-meets : {M : Type 1} (𝓤 : URA M) (H : Heap 𝓤) (A : Atoms 𝓤) (W : Given 𝓤 H A) (mem : Memory → SProp 𝓤) (run : Routine → Fun 𝓤) (𝓣 : Tables 𝓤 H)
     → Triple 𝓤 (𝓣 .C #new) (New 𝓤 H A mem run) → Triple 𝓤 (𝓣 .C #inside) (Inside 𝓤 H A mem run)
     → Meets 𝓤 H A this.signature (WpFn 𝓤 H (𝓣 .C) (𝓣 .Λ) code.function) (this.spec 𝓤 H A mem run)
 this-meets 𝓤 H A W mem run 𝓣 known-new known-inside =
-    walk-meets 𝓤 H A this.ended stayed W (goes-none-slice 𝓤 H A W 1 (0 ∷ []) tt (plain (λ _. u8)) yes, (goes-none 𝓤 H A W 1 (λ _. usize) yes (λ κs x f. refl), tt)) (this.clauses 𝓤 H A mem run) (WpFn 𝓤 H (𝓣 .C) (𝓣 .Λ) code.function) (WpFn-mono 𝓤 H (W .laws) 𝓣 code.function)
+    walk-meets 𝓤 H A this.ended stayed W
+    (goes-none-slice 𝓤 H A W 1 (0 ∷ []) tt (plain (λ _. u8)) yes, (goes-none 𝓤 H A W 1 (λ _. usize) yes (λ κs x f. refl), tt))
+    (this.clauses 𝓤 H A mem run) (WpFn 𝓤 H (𝓣 .C) (𝓣 .Λ) code.function) (WpFn-mono 𝓤 H (W .laws) 𝓣 code.function)
     (this-walks 𝓤 H A W mem run (𝓣 .C) (𝓣 .Λ) (fmOf 𝓤 H (W .laws) 𝓣) known-new known-inside)
 
 pub inside-from-spec : {M : Type 1} → stated.statement M

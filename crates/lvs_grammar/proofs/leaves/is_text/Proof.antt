@@ -8,7 +8,8 @@ use Rattle.lvs_grammar.proofs.types.Kind.{the-type}
 use denote.Enum.Declared.{tagOf}
 use Rattle.lvs_spec.specs.Leaves.{identifier, textIn}
 use Rattle.lvs_grammar.specs.declared.types.Kind.{Kind}
-use Rattle.lvs_grammar.specs.declared.types.Kind.the-variants.{Model, Node, ValueEdge, PatternEdge, Constraint, ConstraintOption, UserFnCall, UserFnArg, TagSymbol}
+use Rattle.lvs_grammar.specs.declared.types.Kind.the-variants.{Model, Node, ValueEdge, PatternEdge, Constraint, ConstraintOption, UserFnCall}
+use Rattle.lvs_grammar.specs.declared.types.Kind.the-variants.{UserFnArg, TagSymbol}
 use Rattle.lvs_grammar.specs.Types.{kindOf}
 use Rattle.lvs_grammar.proofs.leaves.is_text.Statement.{statement}
 use Rattle.lvs_grammar.proofs.leaves.is_text.Tie as tie

@@ -32,4 +32,6 @@ unfolding order
 returns-6 c = refused model (c .before .args .state) (c .before .args .typ) (c .match .rest)
 
 pub in-model-spec : {M : Type 1} → statement M
-in-model-spec = tie.close (tie.spec (λ c κs. search needs) (λ c κs. search needs) (λ c κs. search needs) (λ c κs. search needs) (λ c κs. search needs) returns returns-2 returns-3 returns-4 returns-5 returns-6)
+in-model-spec =
+    tie.close (tie.spec (λ c κs. search needs) (λ c κs. search needs) (λ c κs. search needs) (λ c κs. search needs)
+    (λ c κs. search needs) returns returns-2 returns-3 returns-4 returns-5 returns-6)

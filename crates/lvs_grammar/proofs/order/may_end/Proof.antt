@@ -29,7 +29,8 @@ returns-5 c = rw (c .enum-told5 .given .1) (sym (leb·zero (c .before .before .a
 
 returns-6 : tie.Need-returns-6
 unfolding order final
-returns-6 c = rw (c .enum-told6 .given .1) (sym (leb·zero (c .before .before .args .state)) ∙ end-final constraintOption 0 (c .before .before .args .state) refl)
+returns-6 c =
+    rw (c .enum-told6 .given .1) (sym (leb·zero (c .before .before .args .state)) ∙ end-final constraintOption 0 (c .before .before .args .state) refl)
 
 returns-7 : tie.Need-returns-7
 unfolding order final

@@ -50,7 +50,8 @@ returns : tie.Need-returns Inv-loop μ-loop
 returns c = ended (c .before .before .before .loop .inv) (insides-stop _ (stop-end _ _ (c .before .before .element .ensures) (c .enum-told .given .1)))
 
 returns-2 : tie.Need-returns-2 Inv-loop μ-loop
-returns-2 c = ended (c .before .before .before .loop .inv) (insides-stop _ (stop-malformed _ _ (c .before .before .element .ensures) (c .enum-told2 .given .1)))
+returns-2 c =
+    ended (c .before .before .before .loop .inv) (insides-stop _ (stop-malformed _ _ (c .before .before .element .ensures) (c .enum-told2 .given .1)))
 
 pub count-of-spec : {M : Type 1} → statement M
 count-of-spec =
