@@ -41,6 +41,7 @@ pub struct Content {
 }
 
 // A name; `first` is its refusal for a name that is too long, and the next two are those for a malformed one and for too many components.
+// A layer below: any bytes may be the name; `requires` is about `first`, which the calls of `lvs` give as a constant.
 pub fn read_name(name: &[u8], first: u32) -> NameRead
     requires { ⌜ first ≤ 24 ⌝ }
     ensures { λ r. ⌜ nameRead (now (name .entry)) r ≡ nameReading first (now (name .entry)) ⌝ }
@@ -159,7 +160,7 @@ pub fn read_component(s: &[u8]) -> Content
 }
 
 // Whether the component that `s` begins with equals `c`, which is one component and no more. Numbers have only one form, so that bytes are
-// compared.
+// compared. A layer below: any bytes may be `s`; `c` is what the walk has cut out of a name.
 pub fn begins_with(s: &[u8], c: &[u8]) -> bool
     requires { ⌜ Alone (now c) ⌝ }
     ensures { λ r. ⌜ r ≡ same (componentOf (now (s .entry))) (componentOf (now (c .entry))) ⌝ }
