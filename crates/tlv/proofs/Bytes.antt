@@ -15,7 +15,7 @@ use lib.Pow.{pow-add}
 use Rattle.tlv.specs.Bytes.{Bytes, sameBytes, bigEndian, bigEndianBytes}
 use Rattle.tlv.specs.Spelled.{Spelled}
 
-pow-pos : (w : ℕ) → 0 < 256 ^ w
+pub pow-pos : (w : ℕ) → 0 < 256 ^ w
 pow-pos zero = lit< tt
 pow-pos (suc w) = rw (pow-suc 256 w) (omega (arith, pow-pos w))
 
@@ -74,7 +74,7 @@ spelled-big (x ∷ s) h =
 
 -- ---- w + v bytes are the first w bytes and the v after them
 
-big-append : (s t : List ℕ) → bigEndian (s ++ t) ≡ bigEndian s * 256 ^ length t + bigEndian t
+pub big-append : (s t : List ℕ) → bigEndian (s ++ t) ≡ bigEndian s * 256 ^ length t + bigEndian t
 unfolding bigEndian
 big-append [] t = omega arith
 big-append (x ∷ s) t =

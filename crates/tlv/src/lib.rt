@@ -235,7 +235,7 @@ fn number(s: &[u8], at: usize) -> NumberRead
 }
 
 // How many bytes spell the number after a first byte of 253, 254 or 255.
-fn width_of(b: u8) -> usize
+pub fn width_of(b: u8) -> usize
     ensures { λ r. ⌜ r ≡ width b ⌝ }
 {
     if b == 253 {
