@@ -1,8 +1,10 @@
 -- `tlv_writer::put_number` meets its contract. Assumes nothing.
-use mathlib.Core.Path.{refl}
+use mathlib.Core.Path.{refl, _∙_}
+use lib.ListN.{length-set}
 use native.Mathlib.Omega.{arith}
 use borrow.Author.Needs.{needs}
 use Rattle.tlv_writer.proofs.Numbers.{short-size, long-size, short-stored, long-stored, digits-behind, number-size}
+use Rattle.tlv_writer.proofs.Stores.{stored-length}
 use Rattle.tlv_writer.proofs.put_number.Statement.{statement}
 use Rattle.tlv_writer.proofs.put_number.Tie as tie
 
@@ -24,6 +26,9 @@ returns-2 c = long-stored _ _ _ (c .before .before .before .before .before .befo
 add-result-2 : tie.Need-add-result-2
 add-result-2 c = omega (arith, c .before .before .before .before .before .before .before .before .pre, number-size _ (c .before .before .before .before .before .before .if1 .left) (c .before .before .before .before .before .mark-of .ensures) (c .before .before .before .before .width-of .ensures) .0)
 
+same-length-2 : tie.Need-same-length-2
+same-length-2 c = stored-length (c .before .before .put-digits .ensures) ∙ length-set (c .before .before .before .before .before .before .before .before .args .out .now) _ _
+
 pub put-number-spec : {M : Type 1} → statement M
 put-number-spec =
     tie.close
@@ -39,5 +44,5 @@ put-number-spec =
     slice-write-out-2
     put-digits-requires
     add-result-2
-    (λ c. search needs)
+    same-length-2
     returns-2)

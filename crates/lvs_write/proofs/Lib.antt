@@ -1,0 +1,5 @@
+pub mod Sizes
+pub mod Moves
+pub mod Fronts
+pub mod Many
+pub mod Nested
