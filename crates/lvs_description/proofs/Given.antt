@@ -64,6 +64,7 @@ not-final t (past-once {ts} {items} o) e = false≢true e
 not-final t (past-maybe {ts} {items} o) e = not-final t o e
 not-final t (past-many {ts} {items} o) e = not-final t o e
 
+-- a list is not empty
 pub record There (l : List (List ℕ)) : Type 0 where
   pub head : List ℕ
   pub tail : List (List ℕ)
@@ -82,13 +83,19 @@ module _ (inner : Kind → List ℕ → Bool) (k : Kind) where
   AllFine w [] = Unit {0}
   AllFine w (x ∷ xs) = Fine w x × AllFine w xs
 
-  -- an element's inside is fine as what its type says
-  pub fine-of : (t : ℕ) (w : Known) → meaning t ≡ known w → (e : Element) (v : Known) → meaning (e .type) ≡ known v → insideOk inner k v (e .inside) ≡ true
-      → Small e → t ≡ e .type → Fine w (e .inside)
-  fine-of t w m e v q i s p =
-      let same : known w ≡ known v = sym m ∙ ap meaning p ∙ q in
-      let wv : v ≡ w = cc in
-      record { bytes = s .0; short = s .1; ok = rw wv at i }
+  -- an element that is well formed where it stands
+  pub record Stands (e : Element) : Type 0 where
+    pub what : Known
+    pub known-is : meaning (e .type) ≡ known what
+    pub ok : insideOk inner k what (e .inside) ≡ true
+    pub small : Small e
+
+  -- its inside is fine as what its type says
+  pub fine-of : (t : ℕ) (w : Known) → meaning t ≡ known w → (e : Element) → Stands e → t ≡ e .type → Fine w (e .inside)
+  fine-of t w m e S p =
+      let same : known w ≡ known (S .what) = sym m ∙ ap meaning p ∙ S .known-is in
+      let known-alike : S .what ≡ w = cc in
+      record { bytes = S .small .0; short = S .small .1; ok = rw known-alike at (S .ok) }
 
   fines : (t : ℕ) (w : Known) → meaning t ≡ known w → {items : List Item} {es : List Element} → Ordered inner k items es → Each Small es
       → AllFine w (found es t)
@@ -98,7 +105,7 @@ module _ (inner : Kind → List ℕ → Bool) (k : Kind) where
   fines t w m (take {items} {left} {e} {es} v q p i o) s = go (eqb t (e .type)) refl (fines t w m o (s .1))
     where
       go : (x : Bool) → eqb t (e .type) ≡ x → AllFine w (found es t) → AllFine w (when x (e .inside) ++ found es t)
-      go true h rec = (fine-of t w m e v q i (s .0) (eqb-true t (e .type) h), rec)
+      go true h rec = (fine-of t w m e (record { what = v; known-is = q; ok = i; small = s .0 }) (eqb-true t (e .type) h), rec)
       go false h rec = rec
 
   there : (t : ℕ) (w : Known) → meaning t ≡ known w → {items : List Item} {es : List Element} → Ordered inner k items es → Owes t items → There (found es t)
@@ -120,5 +127,6 @@ module _ (inner : Kind → List ℕ → Bool) (k : Kind) where
     pub fine : (t : ℕ) (w : Known) → meaning t ≡ known w → AllFine w (F t)
     pub owed : (t : ℕ) (w : Known) → meaning t ≡ known w → Owes t (order k) → There (F t)
 
+  -- elements in order are such
   pub given : {es : List Element} → Ordered inner k (order k) es → Each Small es → Given (found es)
   given o s = record { fine = λ t w m. fines t w m o s; owed = λ t w m d. there t w m o d }

@@ -10,18 +10,18 @@ use native.Mathlib.Omega.{arith}
 use borrow.Author.Tests.{eq-eqb}
 use lib.Dec.{eqb}
 use lib.ListN.{length}
-use Rattle.tlv.specs.Element.{Element, cuts, done, nexts, elementBytes, encode}
+use Rattle.tlv.specs.Element.{Element, cuts, done, nexts, elementBytes, encode, Each}
 use Rattle.tlv.specs.Fields.{eachCut, insideOf, insides}
 use Rattle.tlv.specs.Lists.{each, all, member, firstOr, first as firstOf}
 use Rattle.tlv.proofs.RoundTrip.{cuts-encoded}
 use Rattle.lvs_spec.specs.Grammar as grammar
 use Rattle.lvs_spec.specs.Grammar.{Kind, Known, Item, meaning, order, step, final, the, once, known}
 use Rattle.lvs_spec.specs.WellFormed.{insideOk, wellFormedBy}
-use Rattle.lvs_spec.proofs.Grammar.{both, eachCut-nexts}
-use Rattle.lvs_spec.proofs.Bare.{Good, held}
-use Rattle.lvs_spec.proofs.Lists.{each-append}
+use Rattle.lvs_spec.proofs.Grammar.{both, eachCut-nexts, Ordered}
+use Rattle.lvs_spec.proofs.Bare.{Small, Good, held}
+use Rattle.lvs_spec.proofs.Lists.{each-append, any-append}
 use Rattle.lvs_description.specs.Format.{Format, holds, _then_, under, many, maybe}
-use Rattle.lvs_description.proofs.Rows.{Short, short-left, short-right, inside-short, and-true, all-append, all-formed, member-append, neither}
+use Rattle.lvs_description.proofs.Rows.{Short, short-left, short-right, inside-short, and-true, all-append, all-formed, all-back, map-each, neither}
 use Rattle.lvs_description.proofs.Rows.{apart, disjoint, distinct, not-member, Found, found, heavy, weight, weight-append, weight-le}
 use Rattle.lvs_description.proofs.Rows.{encode-append, holds-le, okay, Laid, end, put, past-many, past-maybe, laid-ranged, laid-order}
 use Rattle.lvs_description.proofs.Given.{Owes, Fine, AllFine, Given, given}
@@ -57,6 +57,7 @@ module _ {inner : Kind → List ℕ → Bool} {k : Kind} where
   -- ---- one cell
 
   module _ {A : Type 0} {t : ℕ} {g : Format A} {of : List ℕ → A} (C : Cell inner k t g of) where
+    -- the laws of parts for a single cell
     cell-short : (a : A) → Short (encode (g .elements a)) → Short (C .inside a)
     cell-short a h = inside-short t (C .inside a) (rw (C .elements-is a) at h)
 
@@ -71,6 +72,10 @@ module _ {inner : Kind → List ℕ → Bool} {k : Kind} where
     unfolding insideOf
     cell-found a = rw (C .elements-is a, eq-eqb t t refl)
 
+    cell-back : (a : A) → Short (encode (g .elements a)) → g .formed a ≡ true → each (λ e. map of (insideOf t e)) (g .elements a) ≡ a ∷ []
+    unfolding insideOf
+    cell-back a h ok = rw (C .elements-is a, eq-eqb t t refl, C .back a (cell-short a h) ok)
+
     cell-foreign : (s : ℕ) → eqb s t ≡ false → (a : A) → found (g .elements a) s ≡ []
     unfolding insideOf
     cell-foreign s d a = rw (C .elements-is a, d)
@@ -82,7 +87,7 @@ module _ {inner : Kind → List ℕ → Bool} {k : Kind} where
     pub cell-le : (x : List ℕ) → Fine inner k (C .what) x → length (encode (g .elements (of x))) ≤ length (elementBytes (record { type = t; inside = x }))
     cell-le x F = rw (C .elements-is (of x)) (holds-le t (C .inside (of x)) x (C .kept x F .1))
 
-    -- exactly one
+    -- a cell that stands once
     pub once-part : {left : List Item} → Owes t (order k) → Part inner k (the t) (once (the t) ∷ left) left g (λ F. of (firstOr [] (F t)))
     unfolding step
     once-part {left} o =
@@ -97,7 +102,7 @@ module _ {inner : Kind → List ℕ → Bool} {k : Kind} where
               rw (T .is) (C .kept (T .head) f .0, omega (arith, cell-le (T .head) f));
         }
 
-    -- at most one
+    -- at most once
     pub maybe-part : {left : List Item} → step left t ≡ none → Part inner k (the t) (grammar.maybe (the t) ∷ left) left (maybe g) (λ F. firstOf (map of (F t)))
     unfolding step encode
     maybe-part {left} n = record { laid = laid; formed-is = formed-is; foreign = foreign; back = back; kept = λ F G. kept (F t) (cell-fine G) }
@@ -123,7 +128,7 @@ module _ {inner : Kind → List ℕ → Bool} {k : Kind} where
         kept [] f = (refl, omega arith)
         kept (x ∷ xs) f = (C .kept x (f .0) .0, omega (arith, cell-le x (f .0)))
 
-    -- any number
+    -- any number of times
     pub many-part : {left : List Item} → step left t ≡ none → Part inner k (the t) (grammar.many (the t) ∷ left) left (many g) (λ F. map of (F t))
     unfolding step encode
     many-part {left} n =
@@ -131,7 +136,7 @@ module _ {inner : Kind → List ℕ → Bool} {k : Kind} where
           laid = laid;
           formed-is = all-formed g (okay inner k) cell-formed;
           foreign = foreign;
-          back = λ vs F h ok same. rw (same t (rw (eq-eqb t t refl))) (back vs h ok);
+          back = λ vs F h ok same. rw (same t (rw (eq-eqb t t refl)), map-each of (insideOf t) (each (g .elements) vs)) (all-back g _ cell-back vs h ok);
           kept = λ F G. kept (F t) (cell-fine G);
         }
       where
@@ -146,19 +151,6 @@ module _ {inner : Kind → List ℕ → Bool} {k : Kind} where
         foreign s d [] = refl
         foreign s d (a ∷ vs) =
             rw (each-append (insideOf s) (g .elements a) (each (g .elements) vs), cell-foreign s (neither (eqb s t) false d .0) a, foreign s d vs)
-
-        back : (vs : List A) → Short (encode (each (g .elements) vs)) → all (g .formed) vs ≡ true → map of (found (each (g .elements) vs) t) ≡ vs
-        back [] h ok = refl
-        back (a ∷ vs) h ok =
-            let x = g .elements a in
-            let xs = each (g .elements) vs in
-            let b = both (g .formed a) (all (g .formed) vs) ok in
-            rw (
-              each-append (insideOf t) x xs,
-              cell-found a,
-              C .back a (cell-short a (short-left x xs h)) (b .0),
-              back vs (short-right x xs h) (b .1),
-            )
 
         kept : (xs : List (List ℕ)) → AllFine inner k (C .what) xs → Kept (many g) (map of xs) (heavy t xs + 0)
         kept [] f = (refl, omega arith)
@@ -182,7 +174,7 @@ module _ {inner : Kind → List ℕ → Bool} {k : Kind} where
             let y = g .elements (p .1) in
             rw (all-append (okay inner k) x y, P .formed-is (p .0) (short-left x y h), Q .formed-is (p .1) (short-right x y h));
         foreign = λ t m p.
-            let n = neither (member t own) (member t own′) (sym (member-append t own own′) ∙ m) in
+            let n = neither (member t own) (member t own′) (sym (any-append (eqb t) own own′) ∙ m) in
             rw (each-append (insideOf t) (f .elements (p .0)) (g .elements (p .1)), P .foreign t (n .0) (p .0), Q .foreign t (n .1) (p .1));
         back = back;
         kept = λ F G.
@@ -199,12 +191,12 @@ module _ {inner : Kind → List ℕ → Bool} {k : Kind} where
           let (apart-left, apart-right) = both (apart own own′) (apart own′ own) d in
           let (ok-left, ok-right) = both (f .formed (p .0)) (g .formed (p .1)) ok in
           let left-same : Agree own F x = λ t m.
-          same t (rw (member-append t own own′, m)) ∙
+          same t (rw (any-append (eqb t) own own′, m)) ∙
           each-append (insideOf t) x y ∙
           rw (Q .foreign t (not-member own own′ apart-left t m) (p .1)) (append-nil (found x t)) in
           let right-same : Agree own′ F y = λ t m.
           let n = not-member own′ own apart-right t m in
-          same t (rw (member-append t own own′, n, m)) ∙ each-append (insideOf t) x y ∙ rw (P .foreign t n (p .0)) in
+          same t (rw (any-append (eqb t) own own′, n, m)) ∙ each-append (insideOf t) x y ∙ rw (P .foreign t n (p .0)) in
           let first : read F ≡ p .0 = P .back (p .0) F (short-left x y h) ok-left left-same in
           let second : read′ F ≡ p .1 = Q .back (p .1) F (short-right x y h) ok-right right-same in
           λ i. (first i, second i)
@@ -232,32 +224,35 @@ pub record Container {A : Type 0} (n : ℕ) (k : Kind) (f : Format A) (of : List
   pub back : (a : A) → Short (encode (f .elements a)) → f .formed a ≡ true → of (encode (f .elements a)) ≡ a
   pub kept : (b : List ℕ) → Good n k b → Kept f (of b) (length b)
 
--- bytes of elements that were laid out by the order
-pub laid-formed : (n : ℕ) (k : Kind) (es : List Element) → Laid (order k) es → Short (encode es)
-    → wellFormedBy (suc n) k (encode es) ≡ all (okay (wellFormedBy n) k) es
+-- a container's laws, by its elements: `read` is its reader
+pub by-elements : {A : Type 0} {n : ℕ} {k : Kind} {f : Format A} (read : List Element → A) (of : List ℕ → A)
+    → ((b : List ℕ) (es : List Element) → cuts b ≡ nexts es done → of b ≡ read es)
+    → ((a : A) → Laid (order k) (f .elements a))
+    → ((a : A) → Short (encode (f .elements a)) → all (okay (wellFormedBy n) k) (f .elements a) ≡ f .formed a)
+    → ((a : A) → Short (encode (f .elements a)) → f .formed a ≡ true → read (f .elements a) ≡ a)
+    → ((es : List Element) → Ordered (wellFormedBy n) k (order k) es → Each Small es → Kept f (read es) (length (encode es)))
+    → Container (suc n) k f of
 unfolding wellFormedBy
-laid-formed n k es L h = rw (cuts-encoded es (laid-ranged L h)) (laid-order (wellFormedBy n) k L)
+by-elements {A} {n} {k} {f} read of reads laid okay-is back kept =
+    record {
+      cut-is = cut-is;
+      formed-is = λ a h. rw (cut-is a h) (laid-order (wellFormedBy n) k (laid a) ∙ okay-is a h);
+      back = λ a h ok. reads _ (f .elements a) (cut-is a h) ∙ back a h ok;
+      kept = λ b g.
+          let H = held g in
+          let r = kept (H .elements) (H .ordered) (H .smalls) in
+          rw (reads b (H .elements) (H .cut-is)) (r .0, omega (arith, r .1, ap length (H .encode-is)));
+    }
+  where
+    cut-is : (a : A) → Short (encode (f .elements a)) → cuts (encode (f .elements a)) ≡ nexts (f .elements a) done
+    cut-is a h = cuts-encoded _ (laid-ranged (laid a) h)
 
--- a container is its parts
+-- they are those of its parts
 pub container : {A : Type 0} {n : ℕ} {k : Kind} {own : List ℕ} {f : Format A} {read : Found → A} → Part (wellFormedBy n) k own (order k) [] f read
     → distinct own ≡ true → (of : List ℕ → A) → ((b : List ℕ) → of b ≡ read (λ t. insides t b)) → Container (suc n) k f of
 unfolding insides final
 container {A} {n} {k} {own} {f} {read} P d of of-is =
-    record {
-      cut-is = cut-is;
-      formed-is = λ a h. laid-formed n k (f .elements a) (all-laid a) h ∙ P .formed-is a h;
-      back = λ a h ok. reads (encode (f .elements a)) (f .elements a) (cut-is a h) ∙ P .back a _ h ok (λ t m. refl);
-      kept = λ b g.
-          let H = held g in
-          let r = P .kept (found (H .elements)) (given (wellFormedBy n) k (H .ordered) (H .smalls)) in
-          rw (reads b (H .elements) (H .cut-is)) (r .0, omega (arith, r .1, weight-le own (H .elements) d, ap length (H .encode-is)));
-    }
-  where
-    all-laid : (a : A) → Laid (order k) (f .elements a)
-    all-laid a = rw append-nil at (P .laid a (end refl))
-
-    cut-is : (a : A) → Short (encode (f .elements a)) → cuts (encode (f .elements a)) ≡ nexts (f .elements a) done
-    cut-is a h = cuts-encoded _ (laid-ranged (all-laid a) h)
-
-    reads : (b : List ℕ) (es : List Element) → cuts b ≡ nexts es done → of b ≡ read (found es)
-    reads b es c = of-is b ∙ (λ i. read (λ t. (ap (eachCut (insideOf t)) c ∙ eachCut-nexts (insideOf t) es) i))
+    by-elements (λ es. read (found es)) of
+    (λ b es c. of-is b ∙ (λ i. read (λ t. (ap (eachCut (insideOf t)) c ∙ eachCut-nexts (insideOf t) es) i)))
+    (λ a. rw append-nil at (P .laid a (end refl))) (P .formed-is) (λ a h ok. P .back a _ h ok (λ t m. refl))
+    (λ es o s. let r = P .kept (found es) (given (wellFormedBy n) k o s) in (r .0, omega (arith, r .1, weight-le own es d)))
