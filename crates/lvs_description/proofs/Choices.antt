@@ -83,7 +83,8 @@ module _ {inner : Kind → List ℕ → Bool} {k : Kind} {A : Type 0} {ts : List
       read e S d =
           let x = e .inside in
           let F = fine-of inner k t (C .what) (C .known-is) e S (sym d) in
-          let shorter = subst (λ (u : ℕ). length (encode (c .elements (of x))) ≤ length (elementBytes (record { type = u; inside = x }))) (sym d) (cell-le C x F) in
+          let size : ℕ = length (encode (c .elements (of x))) in
+          let shorter = subst (λ (u : ℕ). size ≤ length (elementBytes (record { type = u; inside = x }))) (sym d) (cell-le C x F) in
           record {
             value = as-one (of x);
             is = (λ j. from (record { type = d j; inside = x })) ∙ from-is x;

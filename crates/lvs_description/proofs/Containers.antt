@@ -1,9 +1,10 @@
--- The laws of each container of a model, cited part by part in the order of docs/format.md, 3. Assumes nothing.
+-- The laws of each container of a model, made of those of its parts in the order of docs/format.md, 3. The number is how deep its bytes are
+-- nested at most: 7 for the model, as lvs_spec's `depth`. Assumes nothing.
 use mathlib.Core.Path.{_≡_, refl, sym, ap, _∙_}
 use mathlib.Core.Bool.{Bool, true}
 use mathlib.Core.List.{List, [], _∷_, map-id}
 use mathlib.Core.Option.{some}
-use Prim.Native.Nat.{ℕ, suc}
+use Prim.Native.Nat.{ℕ}
 use native.Mathlib.Nat.{le-refl}
 use native.Mathlib.Omega.{arith}
 use borrow.Author.Tests.{eqb-true}
@@ -29,6 +30,7 @@ use Rattle.lvs_description.proofs.Choices.{Written, Alternative, altern
 -- ---- cells
 
 module _ {inner : Kind → List ℕ → Bool} {k : Kind} where
+  -- an integer, in its shortest width
   integer-cell : (t : ℕ) → meaning t ≡ known (leaf grammar.integer) → Cell inner k t (integer t) numberOf
   unfolding insideOk leafIn
   integer-cell t m =
@@ -42,6 +44,7 @@ module _ {inner : Kind → List ℕ → Bool} {k : Kind} where
         kept = λ x F. (refl, integer-shorter x (F .bytes) (F .ok));
       }
 
+  -- a component, in a Value
   component-cell : Cell inner k type.Value (component type.Value) componentOf
   unfolding insideOk leafIn meaning knownTypes lookup
   component-cell =
@@ -87,10 +90,10 @@ within-cell {j = j} {f = f} t m C =
 
 -- ---- the containers
 
--- one Value or one Tag
-pub argument-container : (n : ℕ) → Container (suc n) grammar.userFnArg description.argument argumentOf
+-- a UserFnArg: one Value or one Tag
+pub argument-container : Container 1 grammar.userFnArg description.argument argumentOf
 unfolding order argumentOf argumentFrom meaning knownTypes lookup
-argument-container n =
+argument-container =
     one-choice (record { written = written; skips = skips; reads = or-else value (or-else tag no-more) }) (Argument.tag 0) argumentOf (λ b. refl) refl
   where
     K : Kind
@@ -99,70 +102,70 @@ argument-container n =
     ts : List ℕ
     ts = type.Value ∷ type.Tag ∷ []
 
-    value : Alternative (wellFormedBy n) K ts description.argument argumentFrom type.Value Argument.value
+    value : Alternative (wellFormedBy 0) K ts description.argument argumentFrom type.Value Argument.value
     value = alternative component-cell Argument.value (λ b. refl) (λ b. refl) (λ x. refl) refl
 
-    tag : Alternative (wellFormedBy n) K ts description.argument argumentFrom type.Tag Argument.tag
+    tag : Alternative (wellFormedBy 0) K ts description.argument argumentFrom type.Tag Argument.tag
     tag = alternative (integer-cell type.Tag refl) Argument.tag (λ b. refl) (λ b. refl) (λ x. refl) refl
 
-    written : (a : Argument) → Written (wellFormedBy n) K ts description.argument argumentFrom a
+    written : (a : Argument) → Written (wellFormedBy 0) K ts description.argument argumentFrom a
     written (Argument.value e) = value .written e
     written (Argument.tag t) = tag .written t
 
     skips : (e : Element) → meaning (e .type) ≡ grammar.optional → argumentFrom e ≡ []
     skips e q = rw (optional-other type.Value (leaf grammar.value) refl e q, optional-other type.Tag (leaf grammar.integer) refl e q)
 
-pub valueEdge-container : (n : ℕ) → Container (suc n) grammar.valueEdge description.valueEdge valueEdgeOf
+-- a ValueEdge: the destination and the component
+pub valueEdge-container : Container 5 grammar.valueEdge description.valueEdge valueEdgeOf
 unfolding order meaning knownTypes lookup valueEdgeOf theInteger theInside
-valueEdge-container n =
+valueEdge-container =
     container
     (under-part _ _ (λ b. refl) (λ a. refl)
     (then-part refl (once-part (integer-cell type.NodeId refl) here) (once-part component-cell (past-once here))))
     refl valueEdgeOf (λ b. refl)
 
-pub symbol-container : (n : ℕ) → Container (suc n) grammar.tagSymbol description.symbol symbolOf
+-- a TagSymbol: its Tag and its Identifier
+pub symbol-container : Container 6 grammar.tagSymbol description.symbol symbolOf
 unfolding order meaning knownTypes lookup symbolOf theInteger theInside leafIn textIn
-symbol-container n =
+symbol-container =
     container
     (under-part _ _ (λ b. refl) (λ a. refl)
     (then-part refl (once-part (integer-cell type.Tag refl) here)
     (once-part (text-cell type.Identifier grammar.text identifier refl (λ x. refl)) (past-once here))))
     refl symbolOf (λ b. refl)
 
-pub call-container : (n : ℕ) → Container (suc (suc n)) grammar.userFnCall description.call callOf
+-- a UserFnCall: the FnId and the arguments
+pub call-container : Container 2 grammar.userFnCall description.call callOf
 unfolding order step meaning knownTypes lookup callOf theInside leafIn
-call-container n =
+call-container =
     container
     (under-part _ _ (λ b. refl) (λ a. refl)
     (then-part refl (once-part (text-cell type.FnId grammar.functionId (marked 36) refl (λ x. refl)) here)
-    (many-part (within-cell type.UserFnArg refl (argument-container n)) refl)))
+    (many-part (within-cell type.UserFnArg refl argument-container) refl)))
     refl callOf (λ b. refl)
 
--- any number of Values, Tags and calls
-pub option-container : (n : ℕ) → Container (suc (suc (suc n))) grammar.constraintOption description.option optionOf
+-- a ConstraintOption: any number of Values, Tags and calls
+pub option-container : Container 3 grammar.constraintOption description.option optionOf
 unfolding order optionOf termFrom meaning knownTypes lookup
-option-container n =
+option-container =
     many-choice (record { written = written; skips = skips; reads = or-else value (or-else tag (or-else call no-more)) }) optionOf (λ b. refl) refl
   where
-    N : ℕ
-    N = suc (suc n)
-
     K : Kind
     K = grammar.constraintOption
 
     ts : List ℕ
     ts = type.Value ∷ type.Tag ∷ type.UserFnCall ∷ []
 
-    value : Alternative (wellFormedBy N) K ts description.term termFrom type.Value Term.value
+    value : Alternative (wellFormedBy 2) K ts description.term termFrom type.Value Term.value
     value = alternative component-cell Term.value (λ b. refl) (λ b. refl) (λ x. refl) refl
 
-    tag : Alternative (wellFormedBy N) K ts description.term termFrom type.Tag Term.tag
+    tag : Alternative (wellFormedBy 2) K ts description.term termFrom type.Tag Term.tag
     tag = alternative (integer-cell type.Tag refl) Term.tag (λ b. refl) (λ b. refl) (λ x. refl) refl
 
-    call : Alternative (wellFormedBy N) K ts description.term termFrom type.UserFnCall Term.call
-    call = alternative (within-cell type.UserFnCall refl (call-container n)) Term.call (λ b. refl) (λ b. refl) (λ x. refl) refl
+    call : Alternative (wellFormedBy 2) K ts description.term termFrom type.UserFnCall Term.call
+    call = alternative (within-cell type.UserFnCall refl call-container) Term.call (λ b. refl) (λ b. refl) (λ x. refl) refl
 
-    written : (a : Term) → Written (wellFormedBy N) K ts description.term termFrom a
+    written : (a : Term) → Written (wellFormedBy 2) K ts description.term termFrom a
     written (Term.value e) = value .written e
     written (Term.tag t) = tag .written t
     written (Term.call c) = call .written c
@@ -175,31 +178,34 @@ option-container n =
           optional-other type.UserFnCall (grammar.container grammar.userFnCall) refl e q,
         )
 
-pub constraint-container : (n : ℕ) → Container (suc (suc (suc (suc n)))) grammar.constraint description.constraint constraintOf
+-- a Constraint: its options
+pub constraint-container : Container 4 grammar.constraint description.constraint constraintOf
 unfolding order step meaning knownTypes lookup constraintOf
-constraint-container n =
-    container (many-part (within-cell type.ConstraintOption refl (option-container n)) refl) refl constraintOf (λ b. refl)
+constraint-container =
+    container (many-part (within-cell type.ConstraintOption refl option-container) refl) refl constraintOf (λ b. refl)
 
-pub patternEdge-container : (n : ℕ) → Container (suc (suc (suc (suc (suc n))))) grammar.patternEdge description.patternEdge patternEdgeOf
+-- a PatternEdge: the destination, the Tag and the Constraints
+pub patternEdge-container : Container 5 grammar.patternEdge description.patternEdge patternEdgeOf
 unfolding order step meaning knownTypes lookup patternEdgeOf theInteger theInside
-patternEdge-container n =
+patternEdge-container =
     container
     (under-part _ _ (λ b. refl) (λ a. refl)
     (then-part refl (once-part (integer-cell type.NodeId refl) here)
     (then-part refl (once-part (integer-cell type.Tag refl) (past-once here))
-    (many-part (within-cell type.Constraint refl (constraint-container n)) refl))))
+    (many-part (within-cell type.Constraint refl constraint-container) refl))))
     refl patternEdgeOf (λ b. refl)
 
-pub node-container : (n : ℕ) → Container (suc (suc (suc (suc (suc (suc n)))))) grammar.node description.node nodeOf
+-- a Node: the id, the Parent if there is one, the rule names, the edges of both kinds, the signers
+pub node-container : Container 6 grammar.node description.node nodeOf
 unfolding order step meaning knownTypes lookup nodeOf integers theInteger theInside leafIn textIn
-node-container n =
+node-container =
     container
     (under-part _ _ (λ b. refl) (λ a. refl)
     (then-part refl (once-part (integer-cell type.NodeId refl) here)
     (then-part refl (maybe-part (integer-cell type.Parent refl) refl)
     (then-part refl (many-part (text-cell type.Identifier grammar.text (marked 35) refl (λ x. refl)) refl)
-    (then-part refl (many-part (within-cell type.ValueEdge refl (valueEdge-container (suc (suc (suc (suc n)))))) refl)
-    (then-part refl (many-part (within-cell type.PatternEdge refl (patternEdge-container n)) refl)
+    (then-part refl (many-part (within-cell type.ValueEdge refl valueEdge-container) refl)
+    (then-part refl (many-part (within-cell type.PatternEdge refl patternEdge-container) refl)
     (many-part (integer-cell type.SignConstraint refl) refl)))))))
     refl nodeOf (λ b. rw (map-id (insides type.Identifier b)))
 
@@ -222,6 +228,7 @@ version-cell =
       kept = λ x F. (refl, omega (arith, eqb-true (length x) 4 (F .ok)));
     }
 
+-- the parts behind it
 behind-part : {A : Type 0} {inner : Kind → List ℕ → Bool} {own : List ℕ} {items left : List Item} {f : Format A} {read : Found → A}
     → disjoint (the type.Version) own ≡ true → Part inner grammar.model own items left f read
     → Part inner grammar.model (type.Version ∷ own) (once (the type.Version) ∷ items) left (behind (holds type.Version thisVersion) f) read
@@ -236,14 +243,15 @@ behind-part d P =
       kept = λ F G. Q .kept F G;
     }
 
-pub model-container : (n : ℕ) → Container (suc (suc (suc (suc (suc (suc (suc n))))))) grammar.model description.model modelOf
+-- the model: the Version, the start, the pattern count, the Nodes and the symbols
+pub model-container : Container 7 grammar.model description.model modelOf
 unfolding order step meaning knownTypes lookup modelOf theInteger theInside
-model-container n =
+model-container =
     container
     (under-part _ _ (λ b. refl) (λ a. refl)
     (behind-part refl
     (then-part refl (once-part (integer-cell type.NodeId refl) (past-once here))
     (then-part refl (once-part (integer-cell type.NamedPatternCnt refl) (past-once (past-once here)))
-    (then-part refl (many-part (within-cell type.Node refl (node-container n)) refl)
-    (many-part (within-cell type.TagSymbol refl (symbol-container (suc (suc (suc (suc (suc n))))))) refl))))))
+    (then-part refl (many-part (within-cell type.Node refl node-container) refl)
+    (many-part (within-cell type.TagSymbol refl symbol-container) refl))))))
     refl modelOf (λ b. refl)

@@ -75,43 +75,46 @@ written-lists ns ts m count d p =
     let same : modelOf (modelBytes m) ≡ m = cc (written-accepted m count p, written.accepted-reading (modelBytes m) count p) in
     rw same (description-forth ns ts m d)
 
--- ---- a description is refused with the numbers of its bytes
+-- ---- a description is accepted or refused as its bytes are
 
--- What the writing call has to find out before a byte is written: the verdict, from the description and the length of its bytes.
+-- The verdict by the description and the length of its bytes, as the writing call has to find it before a byte is written.
 unfoldable pub verdictOf : Model → Verdict
 verdictOf m = elim (readingOf m) [ unreadable r ↦ refused r 0 | describes x ↦ judge x ]
 
--- It is the verdict on the bytes.
+-- It is the verdict on the bytes: a description that is refused gets the very two numbers that its bytes would get.
 pub written-judged : (m : Model) → verdict (modelBytes m) ≡ verdictOf m
 unfolding verdict verdictOf
 written-judged m = rw (written-reading m, verdict, verdictOf)
 
 -- ---- a model that was read is written again
 
+-- The calls go by the reading alone. Two byte strings with the same reading are alike: they have the same verdict, for all names and buffers
+-- the same match and the same words left, and for all names the same signing answer (`Alike`, lvs_spec/specs/Demands.antt).
+pub reading-alike : (a b : List ℕ) → reading a ≡ reading b → Alike a b
+reading-alike = written.alike
+
 module _ (b : List ℕ) (by : Bytes b) (m : Model) (p : reading b ≡ describes m) where
-  -- What a model's description is written as has that description,
+  -- A description that was read off bytes is written as bytes that have that description,
   pub written-again : reading (modelBytes m) ≡ describes m
   written-again = written.again b by m p
 
-  -- is no longer than the model,
+  -- are no longer,
   pub written-no-longer : length (modelBytes m) ≤ length b
   written-no-longer = written.no-longer b by m p
 
-  -- and has the same verdict, and for all names and buffers the same answers to a match and a signing call, and leaves the same words.
+  -- and are alike.
   pub written-alike : Alike (modelBytes m) b
-  written-alike = written.alike (modelBytes m) b (written-again ∙ sym p)
+  written-alike = reading-alike (modelBytes m) b (written-again ∙ sym p)
 
+  -- So they have the same verdict.
   pub written-verdict : verdict (modelBytes m) ≡ verdict b
   written-verdict = written-alike .verdicts
 
--- In particular, for an accepted model:
 module _ (b : List ℕ) (by : Bytes b) (count : ℕ) (p : verdict b ≡ accepted count) where
+  -- An accepted model, described and written again, has the same reading,
   pub accepted-reading : reading (modelBytes (modelOf b)) ≡ reading b
   accepted-reading = let r = written.accepted-reading b count p in written-again b by (modelOf b) r ∙ sym r
 
+  -- and so the same verdict, matches and signing answers.
   pub accepted-alike : Alike (modelBytes (modelOf b)) b
-  accepted-alike = written-alike b by (modelOf b) (written.accepted-reading b count p)
-
--- The calls go by the reading alone: two byte strings with the same reading are alike.
-pub reading-alike : (a b : List ℕ) → reading a ≡ reading b → Alike a b
-reading-alike = written.alike
+  accepted-alike = reading-alike (modelBytes (modelOf b)) b accepted-reading

@@ -24,15 +24,15 @@ use Rattle.lvs_description.proofs.Containers.{model-container}
 
 pub formed-is : (m : Model) → Short (modelBytes m) → wellFormed (modelBytes m) ≡ formed m
 unfolding modelBytes wellFormed formed
-formed-is m h = model-container 0 .formed-is m h
+formed-is m h = model-container .formed-is m h
 
 pub back : (m : Model) → Short (modelBytes m) → formed m ≡ true → modelOf (modelBytes m) ≡ m
 unfolding modelBytes formed
-back m h ok = model-container 0 .back m h ok
+back m h ok = model-container .back m h ok
 
 pub this-version : (m : Model) → Short (modelBytes m) → otherVersion (modelBytes m) ≡ false
 unfolding modelBytes otherVersion firstKnown isOtherVersion meaning knownTypes lookup sameBytes
-this-version m h = rw (model-container 0 .cut-is m h)
+this-version m h = rw (model-container .cut-is m h)
 
 short : (b : List ℕ) → tooLong b ≡ false → Short b
 unfolding tooLong
@@ -80,7 +80,7 @@ module _ (b : List ℕ) (by : Bytes b) (m : Model) (p : reading b ≡ describes 
   kept =
       let P = passed b m p in
       let same : modelOf b ≡ m = cc (reads b P) in
-      rw (← same) (model-container 0 .kept b (good b by P))
+      rw (← same) (model-container .kept b (good b by P))
 
   pub no-longer : length (modelBytes m) ≤ length b
   no-longer = kept .1
