@@ -29,10 +29,11 @@ pub record Lawful {A : Type 0} (f : Format A) : Type 0 where
 
 -- ---- the steps of taking off
 
--- the parts of what was taken
-parts : {A : Type 0} {x y : A × Lists} → some x ≡ some y → (x .0 ≡ y .0) × (x .1 ≡ y .1)
+-- the two parts of what was taken
+pub parts : {A : Type 0} {x y : A × Lists} → some x ≡ some y → (x .0 ≡ y .0) × (x .1 ≡ y .1)
 parts {A} {x} {y} p = let q : x ≡ y = cc in ((λ i. q i .0), (λ i. q i .1))
 
+-- a number that was taken had been put on; and a text
 number-forth : (l : Lists) {n : ℕ} {l′ : Lists} → takeNumber l ≡ some (n, l′) → l ≡ put n l′
 number-forth l {n} {l′} p = go (l .numbers) (l .texts) p
   where

@@ -22,14 +22,17 @@ use Rattle.lvs_description.proofs.Containers.{model-container}
 
 -- ---- of any description
 
+-- its bytes are well formed where it is
 pub formed-is : (m : Model) → Short (modelBytes m) → wellFormed (modelBytes m) ≡ formed m
 unfolding modelBytes wellFormed formed
 formed-is m h = model-container .formed-is m h
 
+-- and are then read back
 pub back : (m : Model) → Short (modelBytes m) → formed m ≡ true → modelOf (modelBytes m) ≡ m
 unfolding modelBytes formed
 back m h ok = model-container .back m h ok
 
+-- they begin with this version
 pub this-version : (m : Model) → Short (modelBytes m) → otherVersion (modelBytes m) ≡ false
 unfolding modelBytes otherVersion firstKnown isOtherVersion meaning knownTypes lookup sameBytes
 this-version m h = rw (model-container .cut-is m h)
@@ -38,21 +41,23 @@ short : (b : List ℕ) → tooLong b ≡ false → Short b
 unfolding tooLong
 short b p = let h : length b ≤ maxModelBytes = ltb-false _ _ p in omega arith
 
--- by the length of the bytes and by `formed`, what they are read as
+-- what they are read as: too long,
 pub read-long : (m : Model) → tooLong (modelBytes m) ≡ true → reading (modelBytes m) ≡ unreadable 1
 unfolding reading
 read-long m p = rw (p, reading)
 
 module _ (m : Model) (p : tooLong (modelBytes m) ≡ false) where
+  -- malformed,
   pub read-malformed : formed m ≡ false → reading (modelBytes m) ≡ unreadable 2
   unfolding reading
   read-malformed q = let h = short (modelBytes m) p in rw (p, this-version m h, formed-is m h, q, reading)
 
+  -- or the description
   pub read-formed : formed m ≡ true → reading (modelBytes m) ≡ describes m
   unfolding reading
   read-formed q = let h = short (modelBytes m) p in rw (p, this-version m h, formed-is m h, q, back m h q, reading)
 
--- a verdict that accepts is on a description
+-- bytes that are accepted describe a model
 pub accepted-reading : (b : List ℕ) (n : ℕ) → verdict b ≡ accepted n → reading b ≡ describes (modelOf b)
 unfolding verdict reading
 accepted-reading b n p = go (tooLong b) (otherVersion b) (wellFormed b) refl refl refl
@@ -63,6 +68,7 @@ accepted-reading b n p = go (tooLong b) (otherVersion b) (wellFormed b) refl ref
     go false false false q r s = clash (cc (rw (q, r, s, verdict, reading) at p))
     go false false true q r s = rw (q, r, s, reading)
 
+-- and where they were written, the one that they were written from
 pub accepted-is : (m : Model) (count : ℕ) → verdict (modelBytes m) ≡ accepted count → reading (modelBytes m) ≡ describes m
 accepted-is m count p = go (tooLong (modelBytes m)) (formed m) refl refl (accepted-reading (modelBytes m) count p)
   where
@@ -82,17 +88,20 @@ module _ (b : List ℕ) (by : Bytes b) (m : Model) (p : reading b ≡ describes 
       let same : modelOf b ≡ m = cc (reads b P) in
       rw (← same) (model-container .kept b (good b by P))
 
+  -- it is written no longer than it was read
   pub no-longer : length (modelBytes m) ≤ length b
   no-longer = kept .1
 
+  -- and read again
   pub again : reading (modelBytes m) ≡ describes m
   unfolding tooLong
   again =
       let fits : tooLong (modelBytes m) ≡ false = le-ltb maxModelBytes (length (modelBytes m)) (omega (arith, no-longer, passed b m p .short)) in
       read-formed m fits (kept .0)
 
--- ---- the calls go by the reading alone
+-- ---- any bytes
 
+-- the calls go by the reading alone
 pub alike : (a b : List ℕ) → reading a ≡ reading b → Alike a b
 unfolding verdict usableModel matchOutcome signAnswer
 alike a b h = record { verdicts = rw (h, verdict); matched = λ name buffer. rw (h, usableModel); signed = λ packet key. rw (h, usableModel) }
