@@ -1,7 +1,7 @@
 -- The containers whose items allow several types: a UserFnArg holds one Value or Tag, a ConstraintOption any number of Values, Tags and calls.
 -- A choice is written as one element, whose type says which it is; it is made of cells. The laws are those of Parts. Assumes nothing.
 use mathlib.Core.Path.{_≡_, refl, sym, ap, subst, _∙_}
-use mathlib.Core.Bool.{Bool, true, false, _||_, false≢true}
+use mathlib.Core.Bool.{Bool, true, false, _||_, false≢true, and-true}
 use mathlib.Core.List.{List, [], _∷_, _++_, append-nil}
 use mathlib.Core.Option.{none, some}
 use Prim.Native.Nat.{ℕ, suc, _≤_}
@@ -20,7 +20,7 @@ use Rattle.lvs_spec.proofs.Grammar.{eachCut-nexts, Ordered, stop, skip, take}
 use Rattle.lvs_spec.proofs.Bare.{Small}
 use Rattle.lvs_spec.proofs.Lists.{clash, guard-from}
 use Rattle.lvs_description.specs.Format.{Format, holds, many}
-use Rattle.lvs_description.proofs.Rows.{Short, and-true, all-formed, all-back, encode-append, inside-short, okay, Laid, end, put}
+use Rattle.lvs_description.proofs.Rows.{Short, all-formed, all-back, encode-append, inside-short, okay, Laid, end, put}
 use Rattle.lvs_description.proofs.Given.{Stands, fine-of}
 use Rattle.lvs_description.proofs.Parts.{Kept, Cell, cell-le, Container, by-elements}
 

@@ -2,7 +2,7 @@
 -- Assumes nothing.
 use mathlib.Core.Path.{_≡_, refl, sym}
 use mathlib.Core.Logic.{_⊎_, inl, inr}
-use mathlib.Core.Bool.{Bool, true, false, cond, _&&_, _||_, false≢true}
+use mathlib.Core.Bool.{Bool, true, false, cond, _&&_, _||_, false≢true, and-true}
 use mathlib.Core.List.{List, [], _∷_, _++_, append-nil}
 use Prim.Native.Nat.{ℕ, zero, suc, _+_, _%_, _^_, _≤_, _<_}
 use native.Mathlib.Nat.{div-add-mod'}
@@ -24,7 +24,7 @@ use Rattle.lvs_spec.specs.Model.{componentOf, componentFrom}
 use Rattle.lvs_spec.proofs.Grammar.{both}
 use Rattle.lvs_spec.proofs.Lists.{clash}
 use Rattle.lvs_description.specs.Format.{integerWidth, integerBytes, componentType}
-use Rattle.lvs_description.proofs.Rows.{Short, and-true}
+use Rattle.lvs_description.proofs.Rows.{Short}
 
 -- ---- integers
 

@@ -2,7 +2,7 @@
 -- Cells make parts, parts one behind the other make the whole container. Of each it is said what is written and what is read: the bytes are
 -- well formed where the format says so, are then read back, and what is read off well-formed bytes is written no longer. Assumes nothing.
 use mathlib.Core.Path.{_≡_, refl, sym, ap, subst, _∙_}
-use mathlib.Core.Bool.{Bool, true, false}
+use mathlib.Core.Bool.{Bool, true, false, and-true}
 use mathlib.Core.List.{List, [], _∷_, _++_, map, append-nil, append-assoc}
 use mathlib.Core.Option.{Option, none, some}
 use Prim.Native.Nat.{ℕ, suc, _+_, _≤_}
@@ -13,6 +13,7 @@ use lib.ListN.{length}
 use Rattle.tlv.specs.Element.{Element, cuts, done, nexts, elementBytes, encode, Each}
 use Rattle.tlv.specs.Fields.{eachCut, insideOf, insides}
 use Rattle.tlv.specs.Lists.{each, all, member, firstOr, first as firstOf}
+use Rattle.tlv.proofs.Gathered.{all-append}
 use Rattle.tlv.proofs.RoundTrip.{cuts-encoded}
 use Rattle.lvs_spec.specs.Grammar as grammar
 use Rattle.lvs_spec.specs.Grammar.{Kind, Known, Item, meaning, order, step, final, the, once, known}
@@ -21,7 +22,7 @@ use Rattle.lvs_spec.proofs.Grammar.{both, eachCut-nexts, Ordered}
 use Rattle.lvs_spec.proofs.Bare.{Small, Good, held}
 use Rattle.lvs_spec.proofs.Lists.{each-append, any-append}
 use Rattle.lvs_description.specs.Format.{Format, holds, _then_, under, many, maybe}
-use Rattle.lvs_description.proofs.Rows.{Short, short-left, short-right, inside-short, and-true, all-append, all-formed, all-back, map-each, neither}
+use Rattle.lvs_description.proofs.Rows.{Short, short-left, short-right, inside-short, all-formed, all-back, map-each, neither}
 use Rattle.lvs_description.proofs.Rows.{apart, disjoint, distinct, not-member, Found, found, heavy, weight, weight-append, weight-le}
 use Rattle.lvs_description.proofs.Rows.{encode-append, holds-le, okay, Laid, end, put, past-many, past-maybe, laid-ranged, laid-order}
 use Rattle.lvs_description.proofs.Given.{Owes, Fine, AllFine, Given, given}

@@ -12,6 +12,7 @@ use lib.ListN.{length}
 use Rattle.tlv.specs.Element.{Element, done, nexts, typeInRange, elementBytes, encode, InRange, Each}
 use Rattle.tlv.specs.Fields.{insideOf}
 use Rattle.tlv.specs.Lists.{each, all, member}
+use Rattle.tlv.proofs.Gathered.{all-append}
 use Rattle.tlv.proofs.Sizes.{length-encode, length-elementBytes, numberBytes-mono, all-in-range}
 use Rattle.lvs_spec.specs.Grammar.{Kind, Known, Item, Meaning, meaning, step, final, the, maybe, many, optional, critical, known}
 use Rattle.lvs_spec.specs.WellFormed.{insideOk, inOrder}
@@ -25,10 +26,6 @@ Short b = length b < 2 ^ 64
 
 -- ---- tests
 
-pub and-true : (x : Bool) → (x && true) ≡ x
-and-true true = refl
-and-true false = refl
-
 clear : (x : Bool) → not x ≡ true → x ≡ false
 clear true p = sym p
 clear false p = refl
@@ -37,15 +34,6 @@ clear false p = refl
 pub neither : (x y : Bool) → (x || y) ≡ false → (x ≡ false) × (y ≡ false)
 neither true y p = absurd (false≢true (sym p))
 neither false y p = (refl, p)
-
--- a test passes on two lists where it passes on both
-pub all-append : {A : Type 0} (p : A → Bool) (xs ys : List A) → all p (xs ++ ys) ≡ (all p xs && all p ys)
-all-append p [] ys = refl
-all-append p (x ∷ xs) ys = rw (all-append p xs ys) (go (p x))
-  where
-    go : (a : Bool) → (a && (all p xs && all p ys)) ≡ ((a && all p xs) && all p ys)
-    go true = refl
-    go false = refl
 
 -- no type of the one list is in the other
 abbrev pub apart : List ℕ → List ℕ → Bool
