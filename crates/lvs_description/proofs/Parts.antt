@@ -38,19 +38,23 @@ Agree ts F es = (t : ℕ) → member t ts ≡ true → F t ≡ found es t
 module _ (inner : Kind → List ℕ → Bool) (k : Kind) where
   -- g writes one element of type t; `of` reads its inside
   pub record Cell {A : Type 0} (t : ℕ) (g : Format A) (of : List ℕ → A) : Type 0 where
+    -- what the type says that the inside is, and the inside
     pub what : Known
     pub known-is : meaning t ≡ known what
     pub inside : A → List ℕ
     pub elements-is : (a : A) → g .elements a ≡ holds t (inside a)
+    -- it is well formed where g says so, and then read back; what is read is well formed, and its inside no longer
     pub formed-is : (a : A) → Short (inside a) → insideOk inner k what (inside a) ≡ g .formed a
     pub back : (a : A) → Short (inside a) → g .formed a ≡ true → of (inside a) ≡ a
     pub kept : (x : List ℕ) → Fine inner k what x → (g .formed (of x) ≡ true) × (length (inside (of x)) ≤ length x)
 
   -- f writes elements of its own types, which take the items to those that are left; `read` reads them, by what is found of each type
   pub record Part {A : Type 0} (own : List ℕ) (items left : List Item) (f : Format A) (read : Found → A) : Type 0 where
+    -- they stand in order, have well-formed insides where f says so, and are of no other type
     pub laid : (a : A) {es : List Element} → Laid left es → Laid items (f .elements a ++ es)
     pub formed-is : (a : A) → Short (encode (f .elements a)) → all (okay inner k) (f .elements a) ≡ f .formed a
     pub foreign : (t : ℕ) → member t own ≡ false → (a : A) → found (f .elements a) t ≡ []
+    -- they are read back; what is read off well-formed bytes is well formed, and written in no more than the elements of these types took
     pub back : (a : A) (F : Found) → Short (encode (f .elements a)) → f .formed a ≡ true → Agree own F (f .elements a) → read F ≡ a
     pub kept : (F : Found) → Given inner k F → Kept f (read F) (weight own F)
 

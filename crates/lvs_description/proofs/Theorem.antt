@@ -1,6 +1,7 @@
 -- Request 1, over the definitions: what a model and its description have to do with each other, and with the bytes that the model is written
 -- as. `descriptionOf`, `numbersOf`, `textsOf`, `modelBytes` and `formed` are those of specs/Description.antt; `reading`, `verdict` and the
--- answers of the other calls those of lvs_spec. The proofs are in Lists.antt and Written.antt. Assumes nothing.
+-- answers of the other calls those of lvs_spec. `Short b`: b has fewer than 2 ^ 64 bytes, so that its length can be written. The proofs are in
+-- Lists.antt and Written.antt. Assumes nothing.
 use Prim.Native.Nat.{ℕ, _≤_}
 use mathlib.Core.Path.{_≡_, refl, sym, ap, _∙_}
 use mathlib.Core.Bool.{Bool, true, false}
