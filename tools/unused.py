@@ -4,7 +4,7 @@
 usage: unused.py [--remove]
 
 Works on the text: a name counts as used where it occurs as a word outside of `use` lines and comments; an operator where all its parts
-do. Prints each file with its unused imports, and fails if there are any; --remove takes them out.
+do (`_then_` is one, `snake_case` none). Prints each file with its unused imports, and fails if there are any; --remove takes them out.
 """
 import pathlib
 import re
@@ -19,7 +19,8 @@ WORD = r"(?<![\w·-]){}(?![\w·-])"
 
 
 def said(name, text):
-    parts = [part for part in name.split("_") if part] if "_" in name and not re.fullmatch(r"\w+", name) else [name]
+    operator = "_" in name and (not re.fullmatch(r"\w+", name) or name[0] == "_" or name[-1] == "_")
+    parts = [part for part in name.split("_") if part] if operator else [name]
     return all(re.search(WORD.format(re.escape(part)) if part[0].isalnum() or part[0] in "·" else re.escape(part), text) for part in parts)
 
 

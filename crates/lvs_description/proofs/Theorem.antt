@@ -1,38 +1,48 @@
--- Request 1, over the definitions: what the bytes of a description are read as. Assumes nothing.
+-- Request 1, over the definitions: what a model and its description have to do with each other, and with the bytes that the model is written
+-- as. `descriptionOf`, `numbersOf`, `textsOf`, `modelBytes` and `formed` are those of specs/Description.antt; `reading`, `verdict` and the
+-- answers of the other calls those of lvs_spec. `Short b`: b has fewer than 2 ^ 64 bytes, so that its length can be written. The proofs are in
+-- Lists.antt and Written.antt. Assumes nothing.
+use Prim.Native.Nat.{ℕ, _≤_}
 use mathlib.Core.Path.{_≡_, refl, sym, ap, _∙_}
 use mathlib.Core.Bool.{Bool, true, false}
 use mathlib.Core.List.{List}
-use Prim.Native.Nat.{ℕ, _≤_, _<_, _^_}
-use native.Mathlib.Omega.{arith}
-use borrow.Author.Tests.{ltb-false, le-ltb}
+use mathlib.Core.Option.{some}
 use lib.ListN.{length}
+use Rattle.tlv.specs.Bytes.{Bytes}
 use Rattle.lvs_spec.specs.WellFormed.{tooLong, otherVersion, wellFormed}
 use Rattle.lvs_spec.specs.Model.{Model, modelOf}
 use Rattle.lvs_spec.specs.Verdict.{Reading, unreadable, describes, reading, Verdict, accepted, refused, verdict, judge}
-use Rattle.lvs_description.specs.Description.{modelBytes, formed}
-use Rattle.tlv.specs.Bytes.{Bytes}
-use Rattle.lvs_spec.proofs.Bare.{Good}
-use Rattle.lvs_description.proofs.Kept.{model-kept}
-use Rattle.lvs_description.proofs.Written.{Short, model-held, model-version}
+use Rattle.lvs_spec.specs.Demands.{Alike}
+use Rattle.lvs_description.specs.Description.{modelBytes, descriptionOf, numbersOf, textsOf, formed}
+use Rattle.lvs_description.proofs.Rows.{Short}
+use Rattle.lvs_description.proofs.Lists as lists
+use Rattle.lvs_description.proofs.Written as written
 
+-- ---- lists and descriptions are one to one
+
+-- The lists of a model describe it.
+pub description-back : (m : Model) → descriptionOf (numbersOf m) (textsOf m) ≡ some m
+description-back = lists.description-back
+
+-- Lists that describe a model are its lists.
+pub description-forth : (ns ts : List ℕ) (m : Model) → descriptionOf ns ts ≡ some m → (numbersOf m ≡ ns) × (textsOf m ≡ ts)
+description-forth = lists.description-forth
+
+-- ---- a description is read from its bytes
+
+-- The bytes are well formed exactly where the description is: every text and every component's type keeps its rule.
 pub written-formed : (m : Model) → Short (modelBytes m) → wellFormed (modelBytes m) ≡ formed m
-unfolding modelBytes wellFormed formed
-written-formed m h = model-held 0 .formed-is m h
+written-formed = written.formed-is
 
--- what was written is read as the description, wherever it is well formed
+-- Where they are, they describe the model that they were written from.
 pub written-back : (m : Model) → Short (modelBytes m) → wellFormed (modelBytes m) ≡ true → modelOf (modelBytes m) ≡ m
-unfolding modelBytes formed
-written-back m h ok = model-held 0 .back m h (sym (written-formed m h) ∙ ok)
+written-back m h ok = written.back m h (sym (written.formed-is m h) ∙ ok)
 
+-- They are of this version.
 pub written-version : (m : Model) → Short (modelBytes m) → otherVersion (modelBytes m) ≡ false
-unfolding modelBytes
-written-version m h = model-version m h
+written-version = written.this-version
 
-short : (b : List ℕ) → tooLong b ≡ false → Short b
-unfolding tooLong
-short b p = let h : length b ≤ 32768 = ltb-false _ _ p in omega arith
-
--- a description's bytes are too long, malformed, or describe it
+-- So the bytes of any description are too long (1), malformed (2), or describe it. They are never of another version (3).
 unfoldable pub readingOf : Model → Reading
 readingOf m =
     elim (tooLong (modelBytes m)) [
@@ -41,76 +51,71 @@ readingOf m =
     ]
 
 pub written-reading : (m : Model) → reading (modelBytes m) ≡ readingOf m
-unfolding reading readingOf
-written-reading m = long (tooLong (modelBytes m)) refl
+unfolding readingOf
+written-reading m = go (tooLong (modelBytes m)) (formed m) refl refl
   where
-    ok : tooLong (modelBytes m) ≡ false → (t : Bool) → formed m ≡ t → reading (modelBytes m) ≡ readingOf m
-    ok p true q =
-        let h = short (modelBytes m) p in
-        let w = written-formed m h ∙ q in
-        rw (p, written-version m h, w, written-back m h w, q, reading, readingOf)
-    ok p false q =
-        let h = short (modelBytes m) p in
-        rw (p, written-version m h, written-formed m h ∙ q, q, reading, readingOf)
+    go : (x y : Bool) → tooLong (modelBytes m) ≡ x → formed m ≡ y → reading (modelBytes m) ≡ readingOf m
+    go true y p q = written.read-long m p ∙ rw (p, readingOf)
+    go false false p q = written.read-malformed m p q ∙ rw (p, q, readingOf)
+    go false true p q = written.read-formed m p q ∙ rw (p, q, readingOf)
 
-    long : (t : Bool) → tooLong (modelBytes m) ≡ t → reading (modelBytes m) ≡ readingOf m
-    long true p = rw (p, reading, readingOf)
-    long false p = ok p (formed m) refl
-
--- a description is accepted or refused as its bytes are
+-- Bytes that are accepted describe the model that they were written from,
 pub written-accepted : (m : Model) (count : ℕ) → verdict (modelBytes m) ≡ accepted count → reading (modelBytes m) ≡ describes m
-unfolding verdict readingOf
-written-accepted m count p = long (tooLong (modelBytes m)) refl (formed m) refl
-  where
-    q : (elim (readingOf m) as (λ x. Verdict) [ unreadable r ↦ refused r 0 | describes m ↦ judge m ]) ≡ accepted count
-    q = rw (← (written-reading m)) p
+written-accepted = written.accepted-is
 
-    long : (t : Bool) → tooLong (modelBytes m) ≡ t → (s : Bool) → formed m ≡ s → reading (modelBytes m) ≡ describes m
-    long true a s b = let z : _≡_ {A = ℕ} 0 1 = cc (rw (a, readingOf) at q) in absurd (omega arith)
-    long false a false b = let z : _≡_ {A = ℕ} 0 1 = cc (rw (a, b, readingOf) at q) in absurd (omega arith)
-    long false a true b = written-reading m ∙ rw (a, b, readingOf)
+-- and no other: the bytes of a well-formed description are those of no other description.
+pub written-once : (m m′ : Model) → Short (modelBytes m) → formed m ≡ true → modelBytes m ≡ modelBytes m′ → m ≡ m′
+written-once m m′ h ok same =
+    let f : wellFormed (modelBytes m) ≡ true = written.formed-is m h ∙ ok in
+    sym (written-back m h f) ∙ ap modelOf same ∙ written-back m′ (rw same at h) (rw same at f)
 
--- ---- reading and writing again
+-- Lists whose bytes are accepted are got back from the bytes.
+pub written-lists : (ns ts : List ℕ) (m : Model) (count : ℕ) → descriptionOf ns ts ≡ some m → verdict (modelBytes m) ≡ accepted count
+    → (numbersOf (modelOf (modelBytes m)) ≡ ns) × (textsOf (modelOf (modelBytes m)) ≡ ts)
+written-lists ns ts m count d p =
+    let same : modelOf (modelBytes m) ≡ m = cc (written-accepted m count p, written.accepted-reading (modelBytes m) count p) in
+    rw same (description-forth ns ts m d)
 
--- bytes that were read: not too long, of this version, well formed
-record Readable (b : List ℕ) (m : Model) : Type 0 where
-  fits : tooLong b ≡ false
-  good : wellFormed b ≡ true
-  is : modelOf b ≡ m
+-- ---- a description is accepted or refused as its bytes are
 
-readable : (b : List ℕ) (m : Model) → reading b ≡ describes m → Readable b m
-unfolding reading
-readable b m p = long (tooLong b) (otherVersion b) (wellFormed b) refl refl refl
-  where
-    long : (x y z : Bool) → tooLong b ≡ x → otherVersion b ≡ y → wellFormed b ≡ z → Readable b m
-    long true y z a c d = let z : _≡_ {A = ℕ} 0 1 = cc (rw (a, reading) at p) in absurd (omega arith)
-    long false true z a c d = let z : _≡_ {A = ℕ} 0 1 = cc (rw (a, c, reading) at p) in absurd (omega arith)
-    long false false false a c d = let z : _≡_ {A = ℕ} 0 1 = cc (rw (a, c, d, reading) at p) in absurd (omega arith)
-    long false false true a c d = record { fits = a; good = d; is = cc (rw (a, c, d, reading) at p) }
+-- The verdict by the description and the length of its bytes, as the writing call has to find it before a byte is written.
+unfoldable pub verdictOf : Model → Verdict
+verdictOf m = elim (readingOf m) [ unreadable r ↦ refused r 0 | describes x ↦ judge x ]
+
+-- It is the verdict on the bytes: a description that is refused gets the very two numbers that its bytes would get.
+pub written-judged : (m : Model) → verdict (modelBytes m) ≡ verdictOf m
+unfolding verdict verdictOf
+written-judged m = rw (written-reading m, verdict, verdictOf)
+
+-- ---- a model that was read is written again
+
+-- The calls go by the reading alone. Two byte strings with the same reading are alike: they have the same verdict, for all names and buffers
+-- the same match and the same words left, and for all names the same signing answer (`Alike`, lvs_spec/specs/Demands.antt).
+pub reading-alike : (a b : List ℕ) → reading a ≡ reading b → Alike a b
+reading-alike = written.alike
 
 module _ (b : List ℕ) (by : Bytes b) (m : Model) (p : reading b ≡ describes m) where
-  kept : (formed m ≡ true) × (length (modelBytes m) ≤ length b)
-  unfolding modelBytes formed wellFormed
-  kept =
-      let r = readable b m p in
-      let k = model-kept 0 b (record { bytes = by; fits = short b (r .fits); formed = r .good }) in
-      (rw (← (r .is)) (k .0), rw (← (r .is)) (k .1))
-
-  not-long : tooLong (modelBytes m) ≡ false
-  unfolding tooLong
-  not-long =
-      let h : length b ≤ 32768 = ltb-false _ _ (readable b m p .fits) in
-      le-ltb 32768 (length (modelBytes m)) (omega (arith, kept .1))
-
-  -- the bytes that a reading's description is written as have that description, and are no longer
+  -- A description that was read off bytes is written as bytes that have that description,
   pub written-again : reading (modelBytes m) ≡ describes m
-  unfolding readingOf
-  written-again = written-reading m ∙ rw (not-long, kept .0, readingOf)
+  written-again = written.again b by m p
 
+  -- are no longer,
   pub written-no-longer : length (modelBytes m) ≤ length b
-  written-no-longer = kept .1
+  written-no-longer = written.no-longer b by m p
 
-  -- and so the same verdict
+  -- and are alike.
+  pub written-alike : Alike (modelBytes m) b
+  written-alike = reading-alike (modelBytes m) b (written-again ∙ sym p)
+
+  -- So they have the same verdict.
   pub written-verdict : verdict (modelBytes m) ≡ verdict b
-  unfolding verdict
-  written-verdict = rw (written-again, p, verdict)
+  written-verdict = written-alike .verdicts
+
+module _ (b : List ℕ) (by : Bytes b) (count : ℕ) (p : verdict b ≡ accepted count) where
+  -- An accepted model, described and written again, has the same reading,
+  pub accepted-reading : reading (modelBytes (modelOf b)) ≡ reading b
+  accepted-reading = let r = written.accepted-reading b count p in written-again b by (modelOf b) r ∙ sym r
+
+  -- and so the same verdict, matches and signing answers.
+  pub accepted-alike : Alike (modelBytes (modelOf b)) b
+  accepted-alike = reading-alike (modelBytes (modelOf b)) b accepted-reading

@@ -1,4 +1,6 @@
--- The plain description of a model (request 1): the order of its numbers and texts, and the bytes that it is written as. Definitions only.
+-- A model's description as two lists, numbers and texts, in the layout of docs/format.md, 12, and the bytes that a model is written as: the
+-- elements in the order of docs/format.md, 3, no optional ones, every integer in its shortest width. One format for each container.
+-- Definitions only.
 use Prim.Native.Nat.{ℕ, zero, suc}
 use mathlib.Core.Bool.{Bool}
 use mathlib.Core.List.{List, [], _∷_}
@@ -9,10 +11,12 @@ use Rattle.lvs_spec.specs.Types as type
 use Rattle.lvs_spec.specs.Leaves.{identifier, marked}
 use Rattle.lvs_spec.specs.WellFormed.{thisVersion}
 use Rattle.lvs_spec.specs.Model.{Argument, Call, Term, ConstraintOption, Constraint, ValueEdge, PatternEdge, Node, Symbol, Model}
-use Rattle.lvs_description.specs.Format.{Lists, Taken, takeNumber, put, Format, holds, integer, text, component, _then_, under, many, maybe, within, behind}
+use Rattle.lvs_description.specs.Format.{Lists, Taken, takeNumber, put, Format, holds}
+use Rattle.lvs_description.specs.Format.{integer, text, component, _then_, under, many, maybe, within, behind}
 
--- ---- an argument: 0 and a Value, or 1 and a Tag
+-- ---- a UserFnArg: kind 0 and a Value, or kind 1 and a Tag
 
+-- what follows the kind
 abbrev pub argumentFrom : ℕ → Lists → Taken Argument
 argumentFrom zero l = bind (component type.Value .from l) (λ r. some (Argument.value (r .0), r .1))
 argumentFrom (suc zero) l = bind (integer type.Tag .from l) (λ r. some (Argument.tag (r .0), r .1))
@@ -39,13 +43,16 @@ argument =
       formed = argumentFormed;
     }
 
+-- ---- a UserFnCall: a FnId, with its `$` (36), and the arguments
+
 abbrev pub call : Format Call
 call =
     under (λ p. record { function = p .0; arguments = p .1 }) (λ c. (c .function, c .arguments))
     (text type.FnId (marked 36) then many (within type.UserFnArg argument))
 
--- ---- a term: 0 and a Value, 1 and a Tag, or 2 and a UserFnCall
+-- ---- a term: kind 0 and a Value, kind 1 and a Tag, or kind 2 and a UserFnCall
 
+-- what follows the kind
 abbrev pub termFrom : ℕ → Lists → Taken Term
 termFrom zero l = bind (component type.Value .from l) (λ r. some (Term.value (r .0), r .1))
 termFrom (suc zero) l = bind (integer type.Tag .from l) (λ r. some (Term.tag (r .0), r .1))
@@ -78,22 +85,27 @@ term =
 
 -- ---- the other containers
 
+-- a ConstraintOption: its terms
 abbrev pub option : Format ConstraintOption
 option = many term
 
+-- a Constraint: its options
 abbrev pub constraint : Format Constraint
 constraint = many (within type.ConstraintOption option)
 
+-- the destination and the component
 abbrev pub valueEdge : Format ValueEdge
 valueEdge =
     under (λ p. record { destination = p .0; value = p .1 }) (λ e. (e .destination, e .value))
     (integer type.NodeId then component type.Value)
 
+-- the destination, the Tag and the Constraints
 abbrev pub patternEdge : Format PatternEdge
 patternEdge =
     under (λ p. record { destination = p .0; tag = p .1 .0; constraints = p .1 .1 }) (λ e. (e .destination, (e .tag, e .constraints)))
     (integer type.NodeId then integer type.Tag then many (within type.Constraint constraint))
 
+-- the id, the Parent if there is one, the rule names, with their `#` (35), the edges of both kinds and the signers
 abbrev pub node : Format Node
 node =
     under
@@ -113,11 +125,13 @@ node =
     many (within type.PatternEdge patternEdge) then
     many (integer type.SignConstraint))
 
+-- a TagSymbol: its Tag and its Identifier
 abbrev pub symbol : Format Symbol
 symbol =
     under (λ p. record { tag = p .0; identifier = p .1 }) (λ s. (s .tag, s .identifier))
     (integer type.Tag then text type.Identifier identifier)
 
+-- the start, the pattern count, the Nodes and the symbols. The Version stands in the bytes alone
 abbrev pub model : Format Model
 model =
     under
@@ -137,16 +151,18 @@ model =
 unfoldable pub modelBytes : Model → List ℕ
 modelBytes m = encode (model .elements m)
 
+-- both lists have to be used up
 abbrev pub nothingLeft : Model → List ℕ → List ℕ → Option Model
 nothingLeft m [] [] = some m
 nothingLeft m [] (y ∷ ys) = none
 nothingLeft m (x ∷ xs) [] = none
 nothingLeft m (x ∷ xs) (y ∷ ys) = none
 
--- the model that numbers and texts describe; none is refusal 30
+-- the model that two lists describe, if they describe one. That they do not is refusal 30 of the writing call
 unfoldable pub descriptionOf : List ℕ → List ℕ → Option Model
 descriptionOf ns ts = bind (model .from (record { numbers = ns; texts = ts })) (λ r. nothingLeft (r .0) (r .1 .numbers) (r .1 .texts))
 
+-- the lists that describe a model
 unfoldable pub listsOf : Model → Lists
 listsOf m = model .onto m (record { numbers = []; texts = [] })
 
@@ -156,6 +172,6 @@ numbersOf m = listsOf m .numbers
 unfoldable pub textsOf : Model → List ℕ
 textsOf m = listsOf m .texts
 
--- when the bytes are well formed: every text and every component's type keeps its rule
+-- every text and every component's type keeps its rule, so that the bytes are well formed
 unfoldable pub formed : Model → Bool
 formed m = model .formed m

@@ -1,5 +1,5 @@
--- How a part of a description stands in two lists, the numbers and the bytes of the texts, and as which elements it is written. A few
--- formats, and ways to make one of others. Definitions only.
+-- Formats: how a part of a model is laid out in the two lists of a description, the numbers and the texts' bytes (docs/format.md, 12), and as
+-- which elements it is written (docs/format.md, 3). A few formats, and the ways to make one of others. Definitions only.
 use Prim.Native.Nat.{ℕ, zero, suc}
 use mathlib.Core.Bool.{Bool, true, cond, _&&_}
 use mathlib.Core.List.{List, [], _∷_, _++_}
@@ -11,24 +11,29 @@ use Rattle.tlv.specs.Element.{Element, elementBytes, encode}
 use Rattle.tlv.specs.Lists.{bind, guard, each, all}
 use Rattle.lvs_spec.specs.Limits.{maxComponentType}
 
--- ---- integers in their shortest of the four widths
+-- ---- integers
+
+-- the shortest of the four widths; 8 bytes for what does not fit, too
 
 unfoldable pub integerWidth : ℕ → ℕ
 integerWidth n = cond (ltb n 256) 1 (cond (ltb n 65536) 2 (cond (ltb n 4294967296) 4 8))
 
+-- big-endian, in that width
 unfoldable pub integerBytes : ℕ → List ℕ
 integerBytes n = bigEndianBytes (integerWidth n) n
 
--- ---- the two lists, and what is taken off their fronts
+-- ---- the two lists
 
+-- the numbers, and the bytes of all texts one after the other
 pub record Lists : Type 0 where
   pub numbers : List ℕ
   pub texts : List ℕ
 
--- what is read, and what is left; none where a list runs out or a number is not one that may stand there
+-- what is read off the front, and the lists that are left; none where a list runs out or a number may not stand there
 abbrev pub Taken : Type 0 → Type 0
 Taken A = Option (A × Lists)
 
+-- the first number
 abbrev pub headOf : List ℕ → List ℕ → Taken ℕ
 headOf [] ts = none
 headOf (n ∷ ns) ts = some (n, record { numbers = ns; texts = ts })
@@ -36,33 +41,36 @@ headOf (n ∷ ns) ts = some (n, record { numbers = ns; texts = ts })
 abbrev pub takeNumber : Lists → Taken ℕ
 takeNumber l = headOf (l .numbers) (l .texts)
 
--- n bytes off the texts
+-- the next n bytes of the texts
 unfoldable pub bytesOf : ℕ → Lists → Taken (List ℕ)
 bytesOf n l = guard (leb n (length (l .texts))) (take n (l .texts), record { numbers = l .numbers; texts = drop n (l .texts) })
 
--- a text: its length, which is a number, and its bytes
+-- a text: its length stands among the numbers, its bytes among the texts
 unfoldable pub takeText : Lists → Taken (List ℕ)
 takeText l = bind (takeNumber l) (λ r. bytesOf (r .0) (r .1))
 
+-- a number in front
 abbrev pub put : ℕ → Lists → Lists
 put n l = record { numbers = n ∷ l .numbers; texts = l .texts }
 
+-- a text in front
 abbrev pub putText : List ℕ → Lists → Lists
 putText s l = record { numbers = length s ∷ l .numbers; texts = s ++ l .texts }
 
 -- ---- formats
 
--- `formed` says when the elements are well formed where they stand in a model
+-- how an A is read off the lists and put onto them, as which elements it is written, and when these are well formed (docs/format.md, 3.3)
 pub record Format (A : Type 0) : Type 0 where
   pub from : Lists → Taken A
   pub onto : A → Lists → Lists
   pub elements : A → List Element
   pub formed : A → Bool
 
+-- one element, of type t
 abbrev pub holds : ℕ → List ℕ → List Element
 holds t b = record { type = t; inside = b } ∷ []
 
--- a number: an integer of type t
+-- a number; as an element, an integer of type t
 abbrev pub integer : ℕ → Format ℕ
 integer t =
     record {
@@ -72,17 +80,19 @@ integer t =
       formed = λ n. true;
     }
 
--- a text that passes a test, of type t
+-- a text; as an element, its bytes in one of type t, well formed where a test passes
 abbrev pub text : ℕ → (List ℕ → Bool) → Format (List ℕ)
 text t ok = record { from = takeText; onto = putText; elements = λ s. holds t s; formed = ok }
 
--- a component: its type, which is a number, and a text. It stands in an element of type t
+-- a component's type, which is any number, and its bytes, a text
 abbrev pub takeComponent : Lists → Taken Element
 takeComponent l = bind (takeNumber l) (λ r. bind (takeText (r .1)) (λ s. some (record { type = r .0; inside = s .0 }, s .1)))
 
+-- a type that a name component may have
 unfoldable pub componentType : ℕ → Bool
 componentType n = leb 1 n && leb n maxComponentType
 
+-- a component; as an element, its own bytes in one of type t
 abbrev pub component : ℕ → Format Element
 component t =
     record {
@@ -94,7 +104,7 @@ component t =
 
 module _ {A B : Type 0} where
   infixr 40 _then_
-  -- one and then another
+  -- one, and then another
   abbrev pub _then_ : Format A → Format B → Format (A × B)
   f then g =
       record {
@@ -104,7 +114,7 @@ module _ {A B : Type 0} where
         formed = λ p. f .formed (p .0) && g .formed (p .1);
       }
 
-  -- the same under another type
+  -- the same, as values of another type
   abbrev pub under : (A → B) → (B → A) → Format A → Format B
   under there back f =
       record {
@@ -115,7 +125,7 @@ module _ {A B : Type 0} where
       }
 
 module _ {A : Type 0} where
-  -- n of them
+  -- n values, one after the other
   abbrev pub times : (Lists → Taken A) → ℕ → Lists → Taken (List A)
   times f zero l = some ([], l)
   times f (suc n) l = bind (f l) (λ r. bind (times f n (r .1)) (λ s. some (r .0 ∷ s .0, s .1)))
@@ -124,7 +134,7 @@ module _ {A : Type 0} where
   ontoAll f [] l = l
   ontoAll f (x ∷ xs) l = f x (ontoAll f xs l)
 
-  -- how many there are, and each
+  -- any number of them: how many, and then each
   abbrev pub many : Format A → Format (List A)
   many f =
       record {
@@ -134,7 +144,7 @@ module _ {A : Type 0} where
         formed = λ xs. all (f .formed) xs;
       }
 
-  -- 0, or 1 and the thing itself
+  -- at most one: 0, or 1 and then the value
   abbrev pub maybeFrom : (Lists → Taken A) → ℕ → Lists → Taken (Option A)
   maybeFrom f zero l = some (none, l)
   maybeFrom f (suc zero) l = bind (f l) (λ r. some (some (r .0), r .1))
@@ -161,10 +171,22 @@ module _ {A : Type 0} where
         formed = allMaybe (f .formed);
       }
 
-  -- the same elements in one of type t
+  -- the same in the lists; its elements stand inside one of type t
   abbrev pub within : ℕ → Format A → Format A
-  within t f = record { from = f .from; onto = f .onto; elements = λ a. holds t (encode (f .elements a)); formed = f .formed }
+  within t f =
+      record {
+        from = f .from;
+        onto = f .onto;
+        elements = λ a. holds t (encode (f .elements a));
+        formed = f .formed;
+      }
 
-  -- with elements in front that say nothing
+  -- the same in the lists; its elements stand behind es, which are always the same
   abbrev pub behind : List Element → Format A → Format A
-  behind es f = record { from = f .from; onto = f .onto; elements = λ a. es ++ f .elements a; formed = f .formed }
+  behind es f =
+      record {
+        from = f .from;
+        onto = f .onto;
+        elements = λ a. es ++ f .elements a;
+        formed = f .formed;
+      }
