@@ -41,7 +41,7 @@ const GENERIC_VALUES: [&str; 16] = [
     "1000", "author",
 ];
 
-const COMPONENT_KINDS: [u16; 16] = [
+const COMPONENT_KINDS: [u64; 16] = [
     1, 2, 7, 9, 0x20, 0x21, 0x23, 0x25, 0x36, 0x80, 252, 253, 255, 256, 0x8000, 0xFFFF,
 ];
 
@@ -161,7 +161,7 @@ fn of_other_kind(random: &mut Random, component: &OwnedComponent) -> OwnedCompon
     let other = kinds
         .into_iter()
         .filter(|&kind| kind != component.kind && kind != 0);
-    let other: Vec<u16> = other.collect();
+    let other: Vec<u64> = other.collect();
     OwnedComponent::new(*random.pick(&other), component.value.clone())
 }
 
