@@ -60,18 +60,17 @@ fn assert_describes(numbers: &[u64], texts: &[u8], model: &[u8]) {
     assert_eq!((&found[..], &found_texts[..]), (numbers, texts));
 }
 
-const B: [u64; 22] = [
+const B: [u64; 21] = [
     0, 1, 2, // start, pattern count, two nodes
     0, 0, 0, 0, 1, 1, 1, 0, 0, // node 0: an edge to 1 by tag 1
     1, 1, 0, 0, 0, 0, 1, 1, // node 1: parent 0, signer 1
-    0, 0,
+    0,
 ];
 
 #[test]
 fn models_a_and_b() {
     assert_describes(&[0, 0, 1, 0, 0, 0, 0, 0, 0, 0], b"", &hex(MODEL_A));
-    assert_describes(&B[..21], b"", &hex(MODEL_B));
-    assert_eq!(refused(&B, b""), "refused 30 0");
+    assert_describes(&B, b"", &hex(MODEL_B));
 }
 
 /// A description with everything that there is.
@@ -168,43 +167,45 @@ fn integers_at_the_borders_of_the_widths() {
     }
 }
 
+/// What a node holds, with a text of this length somewhere in it: the numbers
+/// behind its Parent, the texts, the elements.
+fn with_text(length: usize) -> [(Vec<u64>, Vec<u8>, Vec<u8>); 4] {
+    let text = vec![b'n'; length];
+    let value = element(0x21, &element(8, &text));
+    let edge = |term: Vec<u8>| pattern_edge(0, 1, &[constraint(&[term])]);
+    let value_edge = element(0x51, &[integer(0x25, 0), value.clone()].concat());
+    let name = [b"#", &text[..]].concat();
+    let of_call = [b"$eq", &text[..]].concat();
+    let length = length as u64;
+    [
+        (
+            vec![1, length + 1, 0, 0, 0],
+            name.clone(),
+            element(0x29, &name),
+        ),
+        (vec![0, 1, 0, 8, length, 0, 0], text.clone(), value_edge),
+        (
+            vec![0, 0, 1, 0, 1, 1, 1, 1, 0, 8, length, 0],
+            text,
+            edge(value.clone()),
+        ),
+        (
+            vec![0, 0, 1, 0, 1, 1, 1, 1, 2, 3, 1, 0, 8, length, 0],
+            of_call,
+            edge(call("$eq", &[value])),
+        ),
+    ]
+}
+
 #[test]
 fn lengths_at_the_borders_of_the_forms() {
     for length in (200..260).chain([32_000]) {
-        let text = vec![b'n'; length];
-        let name = [b"#", &text[..]].concat();
-        let edge = |term: Vec<u8>| pattern_edge(0, 1, &[constraint(&[term])]);
-        let long_value = element(0x21, &element(8, &text));
-        let length = length as u64;
-        let cases = [
-            (vec![1, length + 1, 0, 0, 0], rule_name_of(&name)),
-            (
-                vec![0, 1, 0, 8, length, 0, 0],
-                element(0x51, &[integer(0x25, 0), long_value.clone()].concat()),
-            ),
-            (
-                vec![0, 0, 1, 0, 1, 1, 1, 1, 0, 8, length, 0],
-                edge(long_value.clone()),
-            ),
-            (
-                vec![0, 0, 1, 0, 1, 1, 1, 1, 2, 3, 1, 0, 8, length, 0],
-                edge(call("$eq", &[long_value])),
-            ),
-        ];
-        for (parts, bytes) in cases {
+        for (parts, texts, elements) in with_text(length) {
             let numbers = [&[0, 0, 1, 0, 1, 0][..], &parts, &[0]].concat();
-            let texts: &[u8] = match parts[0] {
-                1 => &name,
-                _ if bytes.windows(3).any(|three| three == b"$eq") => &[b"$eq", &text[..]].concat(),
-                _ => &text,
-            };
-            assert_describes(&numbers, texts, &model(0, &[node(0, Some(0), &[bytes])]));
+            let expected = model(0, &[node(0, Some(0), &[elements])]);
+            assert_describes(&numbers, &texts, &expected);
         }
     }
-}
-
-fn rule_name_of(text: &[u8]) -> Vec<u8> {
-    element(0x29, text)
 }
 
 #[test]

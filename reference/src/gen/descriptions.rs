@@ -150,6 +150,9 @@ fn add_extras(random: &mut Random, plan: &mut Plan) {
         let length = random.between(225, 260);
         lengthen_text(random, plan, length);
     }
+    if random.chance(15) {
+        add_call(random, plan);
+    }
 }
 
 fn lengthen_text(random: &mut Random, plan: &mut Plan, length: usize) {
@@ -168,6 +171,30 @@ fn lengthen_text(random: &mut Random, plan: &mut Plan, length: usize) {
             }
         }
     }
+}
+
+/// Adds a Constraint with a call to a PatternEdge, if there is one.
+fn add_call(random: &mut Random, plan: &mut Plan) {
+    let edges = plan
+        .nodes
+        .iter_mut()
+        .flat_map(|node| &mut node.pattern_edges);
+    let mut edges: Vec<_> = edges.collect();
+    if edges.is_empty() {
+        return;
+    }
+    let length = random.between(215, 256);
+    let argument = match random.below(4) {
+        0 => ArgumentPlan::Tag(random.between(1, 128) as u64),
+        1 => ArgumentPlan::Value(OwnedComponent::generic("v")),
+        _ => ArgumentPlan::Value(OwnedComponent::generic(random.bytes(length))),
+    };
+    let call = TermPlan::Call {
+        function: (*random.pick(&["$eq", "$eq", "$eq_type"])).into(),
+        arguments: vec![argument],
+    };
+    let index = random.below(edges.len());
+    edges[index].constraints.push(vec![vec![call]]);
 }
 
 fn rule_name(length: usize) -> Vec<u8> {

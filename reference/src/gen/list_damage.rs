@@ -51,19 +51,21 @@ const HUGE: [u64; 9] = [
     u64::MAX,
 ];
 
-/// Changes one number of a role, if there is one.
+/// Changes one number of a role; tells whether there is one.
 fn change(
     random: &mut Random,
     lists: &mut MarkedLists,
     role: Role,
     other: impl FnOnce(&mut Random, u64) -> u64,
-) {
+) -> bool {
     let places = lists.places(role);
-    if !places.is_empty() {
-        let place = *random.pick(&places);
-        let number = lists.numbers[place].1;
-        lists.numbers[place].1 = other(random, number);
+    if places.is_empty() {
+        return false;
     }
+    let place = *random.pick(&places);
+    let number = lists.numbers[place].1;
+    lists.numbers[place].1 = other(random, number);
+    true
 }
 
 /// Gives a component a type that it may not have.
@@ -98,15 +100,26 @@ pub fn damage(random: &mut Random, lists: &mut MarkedLists) {
         1 => cut_texts(random, lists),
         2 => append_numbers(random, lists),
         3 => append_texts(random, lists),
-        4 | 5 => change(random, lists, Role::Kind, other_kind),
-        6 | 7 => change(random, lists, Role::ParentFlag, other_flag),
-        8 | 9 => change(random, lists, Role::Count, one_off),
-        10 => change(random, lists, Role::TextLength, one_off),
-        11 => change(random, lists, Role::Count, huge),
-        12 => change(random, lists, Role::TextLength, huge),
+        4..=12 => change_shape(random, lists),
         13 => shift_texts(random, lists),
         14 => take_out_or_repeat(random, lists),
         _ => change_any(random, lists),
+    }
+}
+
+/// Changes a number that says what comes next, or how much.
+fn change_shape(random: &mut Random, lists: &mut MarkedLists) {
+    let is_changed = match random.below(13) {
+        0 | 1 => change(random, lists, Role::TermKind, other_kind),
+        2 | 3 => change(random, lists, Role::ArgumentKind, other_kind),
+        4 | 5 => change(random, lists, Role::ParentFlag, other_flag),
+        6 | 7 => change(random, lists, Role::TextLength, one_off),
+        8 | 9 => change(random, lists, Role::TextLength, huge),
+        10 => change(random, lists, Role::Count, huge),
+        _ => false,
+    };
+    if !is_changed {
+        change(random, lists, Role::Count, one_off);
     }
 }
 

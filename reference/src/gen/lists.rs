@@ -18,8 +18,10 @@ pub enum Role {
     Count,
     /// Whether there is a Parent.
     ParentFlag,
-    /// What a term or an argument is.
-    Kind,
+    /// What a term is.
+    TermKind,
+    /// What an argument is.
+    ArgumentKind,
 }
 
 /// A description whose numbers are marked with what they stand for.
@@ -117,32 +119,36 @@ impl MarkedLists {
 
     fn push_term(&mut self, term: &TermPlan) {
         match term {
-            TermPlan::Value(component) => self.push_value(component),
-            TermPlan::Tag(tag) => self.push_tag(*tag),
+            TermPlan::Value(component) => self.push_value(Role::TermKind, component),
+            TermPlan::Tag(tag) => self.push_tag(Role::TermKind, *tag),
             TermPlan::Call {
                 function,
                 arguments,
             } => {
-                self.push(Role::Kind, 2);
+                self.push(Role::TermKind, 2);
                 self.push_text(function);
                 self.push_count(arguments);
                 for argument in arguments {
-                    match argument {
-                        ArgumentPlan::Value(component) => self.push_value(component),
-                        ArgumentPlan::Tag(tag) => self.push_tag(*tag),
-                    }
+                    self.push_argument(argument);
                 }
             }
         }
     }
 
-    fn push_value(&mut self, component: &OwnedComponent) {
-        self.push(Role::Kind, 0);
+    fn push_argument(&mut self, argument: &ArgumentPlan) {
+        match argument {
+            ArgumentPlan::Value(component) => self.push_value(Role::ArgumentKind, component),
+            ArgumentPlan::Tag(tag) => self.push_tag(Role::ArgumentKind, *tag),
+        }
+    }
+
+    fn push_value(&mut self, role: Role, component: &OwnedComponent) {
+        self.push(role, 0);
         self.push_component(component);
     }
 
-    fn push_tag(&mut self, tag: u64) {
-        self.push(Role::Kind, 1);
+    fn push_tag(&mut self, role: Role, tag: u64) {
+        self.push(role, 1);
         self.push(Role::Integer, tag);
     }
 
