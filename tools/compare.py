@@ -2,13 +2,16 @@
 """Compares lvs_cases and lvs_check with the reference checker (reference/, in Rust) on generated cases.
 
 usage: compare.py [CASES [SEED]]
+       compare.py --descriptions [CASES [SEED]]
 
 CASES cases (default 100,000) in batches of 20,000, one seed each, beginning with SEED (default 1). In each batch
 - lvs_cases must print the reference's line for every case;
+- lvs_cases must print the reference's line for half as many cases of gen_descriptions, which write (W) and describe (D) models;
 - lvs_check must print the reference's lines for the first signing cases, given the model as its file;
 - the cases of gap_cases (optional and critical elements in gaps, other versions) must get their lines.
-A difference is printed with its seed and index, and `gen_cases SEED 1 INDEX` writes that case alone. The last lines say how often each
-answer came up.
+With --descriptions only cases of gen_descriptions are compared, CASES of them in batches of 10,000, one seed each.
+A difference is printed with its seed and index, and `gen_cases SEED 1 INDEX` or `gen_descriptions SEED 1 INDEX` writes that case alone.
+The last lines say how often each answer came up, with the letter W or D before those of gen_descriptions.
 """
 import collections
 import itertools
@@ -23,9 +26,10 @@ ROOT = pathlib.Path(__file__).resolve().parent.parent
 OURS = ROOT / "target/bin"
 REFERENCE = ROOT / "reference/target/release"
 BATCH = 20_000
+DESCRIPTIONS = BATCH // 2  # cases of gen_descriptions in a batch
 RUNS = 100  # of lvs_check, in a batch
 LIMIT = 2048  # lvs_check's, for the length of a name
-FIELDS = {b"V": 1, b"M": 3, b"S": 3}
+FIELDS = {b"V": 1, b"M": 3, b"S": 3, b"W": 3, b"D": 3}
 
 
 def build_reference():
@@ -103,35 +107,68 @@ def report(what, seed, ours, expected):
     return len(found)
 
 
+def generate(file, program, *arguments):
+    """Has a program of the reference write cases to a file."""
+    with open(file, "wb") as out:
+        subprocess.run([REFERENCE / program, *map(str, arguments)], stdout=out, check=True)
+
+
+def compare_descriptions(seed, count, folder, answers):
+    """Compares cases that write or describe a model. Answers how many there were, and the differences."""
+    cases = folder / "descriptions"
+    generate(cases, "gen_descriptions", seed, count)
+    expected = lines_of(REFERENCE / "answer_cases", cases)
+    wrong = report("gen_descriptions", seed, lines_of(OURS / "lvs_cases", cases), expected)
+    answers.update((letter.decode() + " ", kind(line)) for (letter, _), line in zip(cases_of(cases), expected))
+    return len(expected), wrong
+
+
 def compare_batch(seed, count, folder, answers):
     cases, gaps, lines = folder / "cases", folder / "gaps", folder / "lines"
-    with open(cases, "wb") as out:
-        subprocess.run([REFERENCE / "gen_cases", str(seed), str(count)], stdout=out, check=True)
+    generate(cases, "gen_cases", seed, count)
     expected = lines_of(REFERENCE / "answer_cases", cases)
     wrong = report("lvs_cases", seed, lines_of(OURS / "lvs_cases", cases), expected)
-    answers.update(map(kind, expected))
-    ran, bad = compare_checker(cases, expected, folder)
-    with open(gaps, "wb") as out:
-        subprocess.run([REFERENCE / "gap_cases", str(seed), str(count // 100), lines], stdout=out, check=True)
+    answers.update(("", kind(line)) for line in expected)
+    described, bad = compare_descriptions(seed, count * DESCRIPTIONS // BATCH, folder, answers)
+    ran, worse = compare_checker(cases, expected, folder)
+    generate(gaps, "gap_cases", seed, count // 100, lines)
     demanded = lines.read_text().splitlines()
-    wrong += bad + report("demand 3", seed, lines_of(OURS / "lvs_cases", gaps), demanded)
-    print(f"seed {seed}: {len(expected)} cases, {ran} runs of lvs_check, {len(demanded)} cases of demand 3, {wrong} differences", flush=True)
-    return len(expected) + ran + len(demanded), wrong
+    wrong += bad + worse + report("demand 3", seed, lines_of(OURS / "lvs_cases", gaps), demanded)
+    print(f"seed {seed}: {len(expected)} cases, {described} of descriptions, {ran} runs of lvs_check, {len(demanded)} cases of demand 3, "
+          f"{wrong} differences", flush=True)
+    return len(expected) + described + ran + len(demanded), wrong
+
+
+def compare_description_batch(seed, count, folder, answers):
+    made, wrong = compare_descriptions(seed, count, folder, answers)
+    print(f"seed {seed}: {made} cases of descriptions, {wrong} differences", flush=True)
+    return made, wrong
+
+
+def in_order(answer):
+    """Sorts the answers of one letter: refusals behind the others, by their numbers."""
+    letter, words = answer
+    number = words.removeprefix("refused ")
+    return (letter, int(number), "") if number.isdigit() else (letter, 0, words)
 
 
 def main():
-    count = int(sys.argv[1]) if len(sys.argv) > 1 else 100_000
-    seed = int(sys.argv[2]) if len(sys.argv) > 2 else 1
+    arguments = sys.argv[1:]
+    compare, batch = compare_batch, BATCH
+    if arguments[:1] == ["--descriptions"]:
+        compare, batch, arguments = compare_description_batch, DESCRIPTIONS, arguments[1:]
+    count = int(arguments[0]) if arguments else 100_000
+    seed = int(arguments[1]) if len(arguments) > 1 else 1
     build_reference()
     answers = collections.Counter()
     calls = wrong = 0
     with tempfile.TemporaryDirectory() as folder:
         while count > 0:
-            made, bad = compare_batch(seed, min(count, BATCH), pathlib.Path(folder), answers)
+            made, bad = compare(seed, min(count, batch), pathlib.Path(folder), answers)
             calls, wrong = calls + made, wrong + bad
-            count, seed = count - BATCH, seed + 1
-    for answer, times in sorted(answers.items()):
-        print(f"{times:>10} {answer}")
+            count, seed = count - batch, seed + 1
+    for letter, answer in sorted(answers, key=in_order):
+        print(f"{answers[letter, answer]:>10} {letter}{answer}")
     print(f"{calls} comparisons, {wrong} differences")
     return 1 if wrong or not calls else 0
 

@@ -1,8 +1,9 @@
-//! The match call and the signing call.
+//! The calls that match, sign, write and describe, and what they answer.
 
 use std::fmt;
 use std::ops::ControlFlow;
 
+use crate::description::NoDescription;
 use crate::model::Model;
 use crate::names::{Name, PlacedComponent, Role};
 use crate::verdict::{load, Reason, Refusal, MAX_TAG};
@@ -128,5 +129,90 @@ fn first_signer<'n>(
         } else {
             ControlFlow::Continue(())
         }
+    })
+}
+
+/// What the writing call answers.
+#[derive(Clone, Copy, Debug, PartialEq, Eq)]
+pub enum WriteAnswer {
+    /// The model is written and has this many bytes.
+    Written(usize),
+    Refused(Refusal),
+}
+
+impl fmt::Display for WriteAnswer {
+    fn fmt(&self, f: &mut fmt::Formatter<'_>) -> fmt::Result {
+        match self {
+            WriteAnswer::Written(length) => write!(f, "written {length}"),
+            WriteAnswer::Refused(refusal) => refusal.fmt(f),
+        }
+    }
+}
+
+/// What the describing call answers.
+#[derive(Clone, Copy, Debug, PartialEq, Eq)]
+pub enum DescribeAnswer {
+    /// The description has this many numbers and this many bytes of texts.
+    Described {
+        numbers: usize,
+        texts: usize,
+    },
+    Refused(Refusal),
+}
+
+impl fmt::Display for DescribeAnswer {
+    fn fmt(&self, f: &mut fmt::Formatter<'_>) -> fmt::Result {
+        match self {
+            DescribeAnswer::Described { numbers, texts } => {
+                write!(f, "described {numbers} {texts}")
+            }
+            DescribeAnswer::Refused(refusal) => refusal.fmt(f),
+        }
+    }
+}
+
+impl From<NoDescription> for Refusal {
+    fn from(NoDescription: NoDescription) -> Self {
+        Reason::NoDescription.into()
+    }
+}
+
+/// Writes the model that two lists describe. Bytes behind it are kept, and all
+/// of them if the call refuses.
+pub fn write_model(numbers: &[u64], texts: &[u8], output: &mut [u8]) -> WriteAnswer {
+    try_write(numbers, texts, output).unwrap_or_else(WriteAnswer::Refused)
+}
+
+fn try_write(numbers: &[u64], texts: &[u8], output: &mut [u8]) -> Result<WriteAnswer, Refusal> {
+    let bytes = Model::from_lists(numbers, texts)?.encode();
+    load(&bytes)?;
+    let place = output
+        .get_mut(..bytes.len())
+        .ok_or(Reason::OutputTooShort)?;
+    place.copy_from_slice(&bytes);
+    Ok(WriteAnswer::Written(bytes.len()))
+}
+
+/// Describes a model in two lists. What is behind the description is kept, and
+/// both lists are if the call refuses.
+pub fn describe(model: &[u8], numbers: &mut [u64], texts: &mut [u8]) -> DescribeAnswer {
+    try_describe(model, numbers, texts).unwrap_or_else(DescribeAnswer::Refused)
+}
+
+fn try_describe(
+    model: &[u8],
+    numbers: &mut [u64],
+    texts: &mut [u8],
+) -> Result<DescribeAnswer, Refusal> {
+    let lists = load(model)?.to_lists();
+    let number_place = numbers
+        .get_mut(..lists.numbers.len())
+        .ok_or(NoDescription)?;
+    let text_place = texts.get_mut(..lists.texts.len()).ok_or(NoDescription)?;
+    number_place.copy_from_slice(&lists.numbers);
+    text_place.copy_from_slice(&lists.texts);
+    Ok(DescribeAnswer::Described {
+        numbers: lists.numbers.len(),
+        texts: lists.texts.len(),
     })
 }

@@ -3,15 +3,20 @@
 //! A case is one letter, then its fields, each a 4-byte length (high byte
 //! first) and that many bytes. An answer is one line of text.
 
+use std::borrow::Cow;
+use std::fmt::Display;
 use std::io::{self, Read, Write};
 
-use crate::{match_name, sign, verdict};
+use crate::{describe, match_name, sign, verdict, write_model};
 
 /// The longest model, name and binding buffer in a case.
 pub const MAX_MODEL_FIELD: usize = 65_536;
 pub const MAX_NAME_FIELD: usize = 4_096;
 pub const MAX_WORDS: usize = 1_024;
-const WORD_BYTES: usize = 4;
+/// The longest lists of a description and the longest output in a case.
+pub const MAX_NUMBERS: usize = 8_192;
+pub const MAX_TEXTS_FIELD: usize = 65_536;
+pub const MAX_OUTPUT_FIELD: usize = 65_536;
 
 /// The inputs of one call.
 #[derive(Clone, Debug, PartialEq, Eq)]
@@ -29,6 +34,16 @@ pub enum Case {
         packet: Vec<u8>,
         key: Vec<u8>,
     },
+    Write {
+        numbers: Vec<u64>,
+        texts: Vec<u8>,
+        output: Vec<u8>,
+    },
+    Describe {
+        model: Vec<u8>,
+        numbers: Vec<u64>,
+        texts: Vec<u8>,
+    },
 }
 
 /// The input is no sequence of cases.
@@ -38,24 +53,37 @@ pub struct Broken;
 impl Case {
     /// Writes the case in the form above.
     pub fn write(&self, out: &mut impl Write) -> io::Result<()> {
+        let (letter, fields) = self.parts();
+        out.write_all(&[letter])?;
+        fields.iter().try_for_each(|field| write_field(out, field))
+    }
+
+    /// The letter and the fields.
+    fn parts(&self) -> (u8, Vec<Cow<'_, [u8]>>) {
         match self {
-            Case::Verdict { model } => {
-                out.write_all(b"V")?;
-                write_field(out, model)
-            }
+            Case::Verdict { model } => (b'V', vec![model.into()]),
             Case::Match { model, name, words } => {
-                out.write_all(b"M")?;
-                write_field(out, model)?;
-                write_field(out, name)?;
-                let bytes: Vec<u8> = words.iter().flat_map(|word| word.to_be_bytes()).collect();
-                write_field(out, &bytes)
+                (b'M', vec![model.into(), name.into(), word_field(words)])
             }
             Case::Sign { model, packet, key } => {
-                out.write_all(b"S")?;
-                write_field(out, model)?;
-                write_field(out, packet)?;
-                write_field(out, key)
+                (b'S', vec![model.into(), packet.into(), key.into()])
             }
+            Case::Write {
+                numbers,
+                texts,
+                output,
+            } => (
+                b'W',
+                vec![number_field(numbers), texts.into(), output.into()],
+            ),
+            Case::Describe {
+                model,
+                numbers,
+                texts,
+            } => (
+                b'D',
+                vec![model.into(), number_field(numbers), texts.into()],
+            ),
         }
     }
 
@@ -71,19 +99,30 @@ impl Case {
             b'M' => Case::Match {
                 model: read_field(input, MAX_MODEL_FIELD)?,
                 name: read_field(input, MAX_NAME_FIELD)?,
-                words: read_words(input)?,
+                words: read_list(input, MAX_WORDS, u32::from_be_bytes)?,
             },
             b'S' => Case::Sign {
                 model: read_field(input, MAX_MODEL_FIELD)?,
                 packet: read_field(input, MAX_NAME_FIELD)?,
                 key: read_field(input, MAX_NAME_FIELD)?,
             },
+            b'W' => Case::Write {
+                numbers: read_list(input, MAX_NUMBERS, u64::from_be_bytes)?,
+                texts: read_field(input, MAX_TEXTS_FIELD)?,
+                output: read_field(input, MAX_OUTPUT_FIELD)?,
+            },
+            b'D' => Case::Describe {
+                model: read_field(input, MAX_MODEL_FIELD)?,
+                numbers: read_list(input, MAX_NUMBERS, u64::from_be_bytes)?,
+                texts: read_field(input, MAX_TEXTS_FIELD)?,
+            },
             _ => return Err(Broken),
         };
         Ok(Some(case))
     }
 
-    /// Makes the call and writes its answer, with the words after the call.
+    /// Makes the call and writes its answer, with what was lent to the call as
+    /// it is afterwards.
     pub fn answer(self, out: &mut impl Write) -> io::Result<()> {
         match self {
             Case::Verdict { model } => writeln!(out, "{}", verdict(&model)),
@@ -93,14 +132,62 @@ impl Case {
                 mut words,
             } => {
                 write!(out, "{}", match_name(&model, &name, &mut words))?;
-                for word in words {
-                    write!(out, " {word}")?;
-                }
+                write_numbers(out, &words)?;
                 writeln!(out)
             }
             Case::Sign { model, packet, key } => writeln!(out, "{}", sign(&model, &packet, &key)),
+            Case::Write {
+                numbers,
+                texts,
+                mut output,
+            } => {
+                write!(out, "{}", write_model(&numbers, &texts, &mut output))?;
+                write_hexadecimal(out, &output)?;
+                writeln!(out)
+            }
+            Case::Describe {
+                model,
+                mut numbers,
+                mut texts,
+            } => {
+                write!(out, "{}", describe(&model, &mut numbers, &mut texts))?;
+                write_numbers(out, &numbers)?;
+                write_hexadecimal(out, &texts)?;
+                writeln!(out)
+            }
         }
     }
+}
+
+/// Each number with a blank before it.
+fn write_numbers(out: &mut impl Write, numbers: &[impl Display]) -> io::Result<()> {
+    numbers
+        .iter()
+        .try_for_each(|number| write!(out, " {number}"))
+}
+
+/// All bytes with one blank before them; nothing for no bytes.
+fn write_hexadecimal(out: &mut impl Write, bytes: &[u8]) -> io::Result<()> {
+    if bytes.is_empty() {
+        return Ok(());
+    }
+    let digit = |value: u8| b"0123456789abcdef"[usize::from(value)];
+    let digits = |byte: u8| [digit(byte >> 4), digit(byte & 15)];
+    out.write_all(b" ")?;
+    out.write_all(&joined(bytes, |byte| digits(*byte)))
+}
+
+/// The bytes of all items one after the other.
+fn joined<T, const N: usize>(items: &[T], bytes: impl Fn(&T) -> [u8; N]) -> Vec<u8> {
+    items.iter().flat_map(bytes).collect()
+}
+
+fn word_field(words: &[u32]) -> Cow<'static, [u8]> {
+    joined(words, |word| word.to_be_bytes()).into()
+}
+
+fn number_field(numbers: &[u64]) -> Cow<'static, [u8]> {
+    joined(numbers, |number| number.to_be_bytes()).into()
 }
 
 fn write_field(out: &mut impl Write, bytes: &[u8]) -> io::Result<()> {
@@ -129,18 +216,18 @@ fn read_field(input: &mut impl Read, limit: usize) -> Result<Vec<u8>, Broken> {
     Ok(bytes)
 }
 
-fn read_words(input: &mut impl Read) -> Result<Vec<u32>, Broken> {
-    let bytes = read_field(input, MAX_WORDS * WORD_BYTES)?;
-    let words = bytes.chunks_exact(WORD_BYTES);
-    if !words.remainder().is_empty() {
+/// Reads a field of items that take N bytes each.
+fn read_list<T, const N: usize>(
+    input: &mut impl Read,
+    limit: usize,
+    item: impl Fn([u8; N]) -> T,
+) -> Result<Vec<T>, Broken> {
+    let bytes = read_field(input, limit * N)?;
+    let (items, rest) = bytes.as_chunks();
+    if !rest.is_empty() {
         return Err(Broken);
     }
-    let word = |bytes: &[u8]| {
-        bytes
-            .iter()
-            .fold(0, |word, &byte| word << 8 | u32::from(byte))
-    };
-    Ok(words.map(word).collect())
+    Ok(items.iter().copied().map(item).collect())
 }
 
 #[cfg(test)]
@@ -171,6 +258,16 @@ mod tests {
                 packet: vec![],
                 key: vec![7],
             },
+            Case::Write {
+                numbers: vec![0, u64::MAX],
+                texts: vec![1],
+                output: vec![],
+            },
+            Case::Describe {
+                model: vec![],
+                numbers: vec![1 << 40],
+                texts: vec![2, 3],
+            },
         ];
         let mut bytes = Vec::new();
         for case in &cases {
@@ -187,6 +284,7 @@ mod tests {
         assert_eq!(read_all(b"V\0\x01\0\x01"), Err(Broken));
         assert_eq!(read_all(b"M\0\0\0\0\0\0\0\0\0\0\0\x01\0"), Err(Broken));
         assert_eq!(read_all(b"S\0\0\0\0\0\0\x10\x01"), Err(Broken));
+        assert_eq!(read_all(b"W\0\0\0\x01\0\0\0\0\0\0\0\0\0"), Err(Broken));
         assert_eq!(read_all(b""), Ok(vec![]));
     }
 
@@ -197,8 +295,65 @@ mod tests {
             name: vec![],
             words: vec![5, 6],
         };
+        assert_eq!(line(case), "refused 2 0 5 6\n");
+    }
+
+    fn line(case: Case) -> String {
         let mut line = Vec::new();
         case.answer(&mut line).unwrap();
-        assert_eq!(line, b"refused 2 0 5 6\n");
+        String::from_utf8(line).unwrap()
+    }
+
+    #[test]
+    fn lines_of_descriptions() {
+        let write = |numbers: &[u64], output: &[u8]| {
+            line(Case::Write {
+                numbers: numbers.into(),
+                texts: vec![],
+                output: output.into(),
+            })
+        };
+        assert_eq!(write(&[], &[]), "refused 30 0\n");
+        assert_eq!(write(&[], &[10, 255]), "refused 30 0 0aff\n");
+        let one_node = [0, 0, 1, 0, 0, 0, 0, 0, 0, 0];
+        assert_eq!(write(&one_node, &[]), "refused 31 0\n");
+        assert_eq!(
+            write(&one_node, &[9; 18]),
+            "written 17 610400011000250100690100630325010009\n"
+        );
+        let describe = |model: &[u8], numbers: &[u64], texts: &[u8]| {
+            line(Case::Describe {
+                model: model.into(),
+                numbers: numbers.into(),
+                texts: texts.into(),
+            })
+        };
+        assert_eq!(describe(&[], &[], &[]), "refused 2 0\n");
+        assert_eq!(describe(&[], &[], &[1, 0xAB]), "refused 2 0 01ab\n");
+        assert_eq!(describe(&[], &[12, 3], &[]), "refused 2 0 12 3\n");
+        assert_eq!(describe(&[], &[12, 3], &[4]), "refused 2 0 12 3 04\n");
+        let model = *b"\x61\x04\0\x01\x10\0\x25\x01\0\x69\x01\x07\x63\x03\x25\x01\0";
+        assert_eq!(
+            describe(&model, &[9; 11], &[1]),
+            "described 10 0 0 7 1 0 0 0 0 0 0 0 9 01\n"
+        );
+        assert_eq!(describe(&model, &[8; 2], &[]), "refused 30 0 8 8\n");
+    }
+
+    #[test]
+    fn lists_of_descriptions_have_limits() {
+        let field = |length: u32| [&length.to_be_bytes()[..], &vec![0; length as usize]].concat();
+        let read = |letter: &[u8], lengths: [u32; 3]| {
+            let fields: Vec<u8> = lengths.into_iter().flat_map(field).collect();
+            read_all(&[letter, &fields].concat()).is_ok()
+        };
+        for letter in [b"W", b"D"] {
+            assert!(read(letter, [65_536; 3]));
+            assert!(!read(letter, [65_544, 0, 0]));
+            assert!(!read(letter, [0, 65_544, 0]));
+            assert!(!read(letter, [0, 0, 65_537]));
+        }
+        assert!(!read(b"D", [7, 4, 0]));
+        assert!(!read(b"W", [12, 0, 0]));
     }
 }

@@ -258,10 +258,41 @@ pub fn append_number(out: &mut Vec<u8>, number: u64) {
 }
 
 /// Appends an element, its header in the shortest form.
-pub fn append_element(out: &mut Vec<u8>, kind: u32, value: &[u8]) {
+pub fn append_element(out: &mut Vec<u8>, kind: impl Into<u64>, value: &[u8]) {
     append_number(out, kind.into());
     append_number(out, value.len() as u64);
     out.extend_from_slice(value);
+}
+
+/// Appends an element with an integer in the fewest of the four widths.
+pub fn append_integer(out: &mut Vec<u8>, kind: u32, integer: u64) {
+    let width = match integer {
+        0..=0xFF => 1,
+        0x100..=0xFFFF => 2,
+        0x1_0000..=0xFFFF_FFFF => 4,
+        _ => 8,
+    };
+    append_element(out, kind, &integer.to_be_bytes()[8 - width..]);
+}
+
+/// Appends an element whose inside is appended by `append_inside`.
+pub fn append_nested(out: &mut Vec<u8>, kind: u32, append_inside: impl FnOnce(&mut Vec<u8>)) {
+    append_number(out, kind.into());
+    let place = out.len();
+    out.push(0);
+    append_inside(out);
+    let length = out.len() - place - 1;
+    match u8::try_from(length) {
+        Ok(byte @ 0..=252) => out[place] = byte,
+        _ => make_room_for_length(out, place, length as u64),
+    }
+}
+
+/// Puts a length where one byte was kept free for it.
+fn make_room_for_length(out: &mut Vec<u8>, place: usize, length: u64) {
+    let mut number = Vec::with_capacity(9);
+    append_number(&mut number, length);
+    out.splice(place..=place, number);
 }
 
 #[cfg(test)]
@@ -327,6 +358,39 @@ mod tests {
         assert_eq!(integer(&[255; 8]), Ok(u64::MAX));
         for length in [0, 3, 5, 6, 7, 9] {
             assert_eq!(integer(&vec![0; length]), Err(Malformed));
+        }
+    }
+
+    #[test]
+    fn integers_are_written_in_the_fewest_bytes() {
+        let written = |number: u64| {
+            let mut out = Vec::new();
+            append_integer(&mut out, kind::TAG, number);
+            assert_eq!(integer(&out[2..]), Ok(number));
+            (out[0], out[1], out.len())
+        };
+        for (number, width) in [
+            (0, 1),
+            (255, 1),
+            (256, 2),
+            (65_535, 2),
+            (65_536, 4),
+            ((1 << 32) - 1, 4),
+            (1 << 32, 8),
+            (u64::MAX, 8),
+        ] {
+            assert_eq!(written(number), (0x23, width, usize::from(width) + 2));
+        }
+    }
+
+    #[test]
+    fn nested_elements_have_the_length_of_their_inside() {
+        for length in [0, 1, 252, 253, 254, 65_535, 65_536] {
+            let inside = vec![7; length];
+            let (mut nested, mut plain) = (vec![1], vec![1]);
+            append_nested(&mut nested, kind::NODE, |out| out.extend(&inside));
+            append_element(&mut plain, kind::NODE, &inside);
+            assert_eq!(nested, plain);
         }
     }
 

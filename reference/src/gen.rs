@@ -3,17 +3,23 @@
 //! A case depends on the seed and its own index only.
 
 mod damage;
+mod descriptions;
 mod faults;
+mod list_damage;
+mod lists;
 mod models;
 mod names;
 mod plan;
+mod program;
 mod random;
 mod sound;
 mod tree;
 mod work;
 
 pub use damage::{critical_kind, optional_kind};
+pub use descriptions::description_case;
 pub use models::{sample, sound_model, Sample};
+pub use program::write_generated;
 pub use random::Random;
 
 use crate::cases::Case;

@@ -6,14 +6,18 @@
 //! - [`model`]: the model as structs, and its reader
 //! - [`verdict`](mod@verdict): the tests of a model, refusals
 //! - [`walk`]: the depth-first walk
-//! - [`answers`]: the match call and the signing call
+//! - [`answers`]: the calls that match, sign, write and describe
+//! - [`encode`]: the bytes of a model
+//! - [`description`]: a model as two plain lists
 //! - [`gaps`](mod@gaps): taking optional elements out and putting elements in
 //! - [`cases`]: the form in which cases and answers travel
 //! - [`gen`]: the generator of cases
 
 pub mod answers;
 pub mod cases;
+pub mod description;
 pub mod elements;
+pub mod encode;
 pub mod gaps;
 pub mod gen;
 pub mod model;
@@ -21,6 +25,8 @@ pub mod names;
 pub mod verdict;
 pub mod walk;
 
-pub use answers::{match_name, sign, MatchAnswer, SignAnswer};
+pub use answers::{
+    describe, match_name, sign, write_model, DescribeAnswer, MatchAnswer, SignAnswer, WriteAnswer,
+};
 pub use gaps::{bare, gaps, insert_element, Gap};
 pub use verdict::{verdict, Reason, Refusal, Verdict};

@@ -59,6 +59,8 @@ pub enum Term<'a> {
 
 #[derive(Clone, Debug)]
 pub struct Call<'a> {
+    /// The whole FnId, `$` included.
+    pub name: &'a [u8],
     /// `None` if the FnId is none of the known names.
     pub function: Option<Function>,
     pub arguments: Vec<Argument<'a>>,
@@ -105,7 +107,15 @@ impl Function {
     }
 }
 
-impl Call<'_> {
+impl<'a> Call<'a> {
+    pub fn new(name: &'a [u8], arguments: Vec<Argument<'a>>) -> Self {
+        Call {
+            name,
+            function: Function::named(name),
+            arguments,
+        }
+    }
+
     /// Whether the function is known and has as many arguments as it takes.
     pub fn is_callable(&self) -> bool {
         self.function
@@ -241,10 +251,7 @@ fn parse_call(value: &[u8]) -> Result<Call<'_>, Malformed> {
     test_prefixed_identifier(name, b'$')?;
     let arguments = contents.take_all(kind::USER_FN_ARG, parse_argument)?;
     contents.finish()?;
-    Ok(Call {
-        function: Function::named(name),
-        arguments,
-    })
+    Ok(Call::new(name, arguments))
 }
 
 fn parse_argument(value: &[u8]) -> Result<Argument<'_>, Malformed> {

@@ -11,7 +11,8 @@ pub const MAX_COMPONENTS: usize = 32;
 /// A name component. Two are equal when type and bytes are.
 #[derive(Clone, Copy, Debug, PartialEq, Eq)]
 pub struct Component<'a> {
-    pub kind: u16,
+    /// From 1 to 65,535 where it was read; in a description it may be any number.
+    pub kind: u64,
     pub value: &'a [u8],
 }
 
@@ -21,7 +22,7 @@ impl<'a> TryFrom<Element<'a>> for Component<'a> {
     fn try_from(element: Element<'a>) -> Result<Self, Malformed> {
         let kind = u16::try_from(element.kind).map_err(|_| Malformed)?;
         Ok(Component {
-            kind,
+            kind: kind.into(),
             value: element.value,
         })
     }

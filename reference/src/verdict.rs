@@ -34,6 +34,9 @@ pub enum Reason {
     KeyMalformed = 25,
     KeyComponents = 26,
     BufferTooShort = 27,
+    /// Lists that form no description, or that are too short for one.
+    NoDescription = 30,
+    OutputTooShort = 31,
 }
 
 /// A refusal: its reason and the position of the first node at fault, or 0.

@@ -33,6 +33,7 @@ fn cases_fit_their_form() {
                 model.len() <= MAX_MODEL_FIELD && name_fits(&name) && words.len() <= MAX_WORDS,
             Case::Sign { model, packet, key } =>
                 model.len() <= MAX_MODEL_FIELD && name_fits(&packet) && name_fits(&key),
+            Case::Write { .. } | Case::Describe { .. } => false,
         });
     }
 }
@@ -43,6 +44,8 @@ fn answer_kind(case: Case) -> String {
         Case::Verdict { .. } => 'V',
         Case::Match { .. } => 'M',
         Case::Sign { .. } => 'S',
+        Case::Write { .. } => 'W',
+        Case::Describe { .. } => 'D',
     };
     let mut line = Vec::new();
     case.answer(&mut line).unwrap();

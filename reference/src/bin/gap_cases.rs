@@ -60,7 +60,9 @@ fn write_all(seed: u64, count: u64, lines: &str) -> io::Result<()> {
 /// The case and its variants, each with its line; none for a model that is
 /// refused with 1 to 3.
 fn variants(case: &Case, random: &mut Random) -> Vec<(Case, String)> {
-    let model = model_of(case);
+    let Some(model) = model_of(case) else {
+        return Vec::new();
+    };
     let (Ok(bare_model), Ok(all_gaps)) = (bare(model), gaps(model)) else {
         return Vec::new();
     };
@@ -88,18 +90,25 @@ fn variants(case: &Case, random: &mut Random) -> Vec<(Case, String)> {
     made
 }
 
-fn model_of(case: &Case) -> &[u8] {
+/// The model that a call reads.
+fn model_of(case: &Case) -> Option<&[u8]> {
     match case {
-        Case::Verdict { model } | Case::Match { model, .. } | Case::Sign { model, .. } => model,
+        Case::Verdict { model }
+        | Case::Match { model, .. }
+        | Case::Sign { model, .. }
+        | Case::Describe { model, .. } => Some(model),
+        Case::Write { .. } => None,
     }
 }
 
 fn with_model(case: &Case, other: Vec<u8>) -> Case {
     let mut changed = case.clone();
     match &mut changed {
-        Case::Verdict { model } | Case::Match { model, .. } | Case::Sign { model, .. } => {
-            *model = other;
-        }
+        Case::Verdict { model }
+        | Case::Match { model, .. }
+        | Case::Sign { model, .. }
+        | Case::Describe { model, .. } => *model = other,
+        Case::Write { .. } => {}
     }
     changed
 }

@@ -76,7 +76,7 @@ fn plan_and_bytes(random: &mut Random) -> (Plan, Vec<u8>) {
 }
 
 /// Writes a plan, at times with optional elements.
-fn write(random: &mut Random, plan: &Plan) -> Vec<u8> {
+pub fn write(random: &mut Random, plan: &Plan) -> Vec<u8> {
     let mut trees = plan.to_trees(random);
     if random.chance(35) {
         let count = random.between(1, 6);

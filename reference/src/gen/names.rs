@@ -350,7 +350,7 @@ fn alter_components(random: &mut Random, model: &Model, components: &mut Vec<Own
 fn encode(components: &[OwnedComponent]) -> Vec<u8> {
     let mut inside = Vec::new();
     for component in components {
-        append_element(&mut inside, component.kind.into(), &component.value);
+        append_element(&mut inside, component.kind, &component.value);
     }
     let mut name = Vec::new();
     append_element(&mut name, kind::NAME, &inside);

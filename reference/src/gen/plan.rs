@@ -67,12 +67,12 @@ pub struct SymbolPlan {
 
 #[derive(Clone, Debug, PartialEq, Eq)]
 pub struct OwnedComponent {
-    pub kind: u16,
+    pub kind: u64,
     pub value: Vec<u8>,
 }
 
 impl OwnedComponent {
-    pub fn new(kind: u16, value: impl Into<Vec<u8>>) -> Self {
+    pub fn new(kind: u64, value: impl Into<Vec<u8>>) -> Self {
         OwnedComponent {
             kind,
             value: value.into(),
@@ -226,6 +226,6 @@ impl PlanWriter<'_> {
 }
 
 fn value(component: &OwnedComponent) -> Tree {
-    let inside = Tree::leaf(component.kind.into(), component.value.clone());
+    let inside = Tree::leaf(component.kind, component.value.clone());
     Tree::nested(kind::VALUE, vec![inside])
 }

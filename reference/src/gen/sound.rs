@@ -41,7 +41,7 @@ const GENERIC_VALUES: [&str; 16] = [
     "1000", "author",
 ];
 
-const COMPONENT_KINDS: [u16; 16] = [
+const COMPONENT_KINDS: [u64; 16] = [
     1, 2, 7, 9, 0x20, 0x21, 0x23, 0x25, 0x36, 0x80, 252, 253, 255, 256, 0x8000, 0xFFFF,
 ];
 
@@ -161,7 +161,7 @@ fn of_other_kind(random: &mut Random, component: &OwnedComponent) -> OwnedCompon
     let other = kinds
         .into_iter()
         .filter(|&kind| kind != component.kind && kind != 0);
-    let other: Vec<u16> = other.collect();
+    let other: Vec<u64> = other.collect();
     OwnedComponent::new(*random.pick(&other), component.value.clone())
 }
 
@@ -517,7 +517,7 @@ fn add_extras(random: &mut Random, plan: &mut Plan) {
         plan.symbols = (0..count).map(|_| symbol(random)).collect();
     }
     if random.chance(10) {
-        set_unused_parent(random, plan);
+        set_unused_parent(random, plan, &[0, 1, 255, 256, 1 << 32, u64::MAX]);
     }
 }
 
@@ -529,8 +529,8 @@ fn symbol(random: &mut Random) -> SymbolPlan {
     }
 }
 
-/// Gives a node that no edge leads to any Parent at all.
-fn set_unused_parent(random: &mut Random, plan: &mut Plan) {
+/// Gives a node that no edge leads to one of these numbers as its Parent.
+pub fn set_unused_parent(random: &mut Random, plan: &mut Plan, parents: &[u64]) {
     let index = random.below(plan.nodes.len());
     let is_destination = |id: u64| {
         plan.nodes.iter().any(|node| {
@@ -539,6 +539,6 @@ fn set_unused_parent(random: &mut Random, plan: &mut Plan) {
         })
     };
     if !is_destination(index as u64) {
-        plan.nodes[index].parent = Some(*random.pick(&[0, 1, 255, 256, 1 << 32, u64::MAX]));
+        plan.nodes[index].parent = Some(*random.pick(parents));
     }
 }

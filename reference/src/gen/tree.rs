@@ -38,15 +38,15 @@ pub enum Scope {
 }
 
 impl Tree {
-    pub fn leaf(kind: u32, bytes: impl Into<Vec<u8>>) -> Self {
+    pub fn leaf(kind: impl Into<u64>, bytes: impl Into<Vec<u8>>) -> Self {
         Tree::new(kind, Content::Bytes(bytes.into()))
     }
 
-    pub fn nested(kind: u32, elements: Vec<Tree>) -> Self {
+    pub fn nested(kind: impl Into<u64>, elements: Vec<Tree>) -> Self {
         Tree::new(kind, Content::Nested(elements))
     }
 
-    fn new(kind: u32, content: Content) -> Self {
+    fn new(kind: impl Into<u64>, content: Content) -> Self {
         Tree {
             kind: kind.into(),
             form: Form::Shortest,

@@ -42,7 +42,7 @@ pub fn shortened(name: &[u8]) -> Vec<u8> {
     let components = readable_components(name);
     let mut inside = Vec::new();
     for component in &components[..components.len() / 2] {
-        append_element(&mut inside, component.kind.into(), component.value);
+        append_element(&mut inside, component.kind, component.value);
     }
     let mut out = Vec::new();
     append_element(&mut out, kind::NAME, &inside);
@@ -67,7 +67,7 @@ fn read_leniently(bytes: &[u8]) -> Option<(Component<'_>, &[u8])> {
     let (length, rest) = read_number_leniently(rest)?;
     let length = usize::try_from(length).map_or(rest.len(), |length| length.min(rest.len()));
     let (value, rest) = rest.split_at(length);
-    let kind = (kind as u16).max(1);
+    let kind = u64::from(kind as u16).max(1);
     Some((Component { kind, value }, rest))
 }
 
