@@ -3,3 +3,4 @@ pub mod Moves
 pub mod Fronts
 pub mod Many
 pub mod Nested
+pub mod Places

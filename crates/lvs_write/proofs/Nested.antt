@@ -61,7 +61,7 @@ module _ {g : Lists → Bytes} {ns ts e e′ : List ℕ} (s : Cursor) {m : Curso
             rest = x .1;
             is = r;
             ok = q;
-            size-is = (λ i. pair i .0) ∙ capped-add 0 (length (x .0));
+            size-is = (λ i. pair i .0) ∙ ap capped (ap (λ (k : ℕ). k + length (x .0)) (capped-is 0 (omega arith)) ∙ omega arith);
             rest-is = λ i. pair i .1;
           }
 
@@ -122,7 +122,9 @@ module _ {g : Lists → Bytes} {ns ts e e′ : List ℕ} (s : Cursor) {m : Curso
         (n-exact, size-is ∙ ap (elementSize t) n-exact ∙ sym long)
 
     pub nested-no-room : {b : List ℕ} → leb (s .at + size) (length b) ≡ false → Writes (λ l. wrapped t (g l)) ns ts b b s r
-    nested-no-room e = written (λ h room. absurd (omega (arith, leb-false _ _ e, exact h .1)))
+    nested-no-room {b} e =
+        let far : length b < s .at + size = leb-false _ _ e in
+        written (λ h room. absurd (omega (arith, exact h .1)))
 
     pub nested-wrote : (b b₁ : List ℕ) {y : List ℕ} {w : Cursor} (start end : ℕ) → leb (s .at + size) (length b) ≡ true
         → start ≡ s .at + length (headerBytes t n) → Stored b b₁ (s .at) (headerBytes t n) → end ≡ start + n

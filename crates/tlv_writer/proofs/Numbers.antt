@@ -6,7 +6,7 @@ use Prim.Native.Nat.{ℕ, zero, suc, _+_, _*_, _/_, _%_, _^_, _≤_, _<_}
 use native.Mathlib.Nat.{mod-lt, div-one, div-add-mod', div-lt-iff-lt-mul}
 use native.Mathlib.Numerals.{add-one}
 use native.Mathlib.Omega.{arith}
-use borrow.Author.Tests.{lt-ltb, le-ltb, ltb-true, eqb-true}
+use borrow.Author.Tests.{lt-ltb, le-ltb, ltb-true, ltb-false, eqb-true}
 use lib.Dec.{ltb, lit≤}
 use lib.Pow.{pow-add}
 use lib.ListN.{length, set, length-append, length-set}
@@ -103,6 +103,13 @@ module _ (n : ℕ) where
 
   pub long-size : 253 ≤ n → length (numberBytes n) ≡ 1 + width (mark n)
   long-size h = ap length (long-is h) ∙ omega (arith, length-spelled (width (mark n)) n)
+
+  pub number-most : length (numberBytes n) ≤ 9
+  number-most = go (ltb n 253) refl
+    where
+      go : (t : Bool) → ltb n 253 ≡ t → length (numberBytes n) ≤ 9
+      go true e = omega (arith, short-size (ltb-true _ _ e))
+      go false e = omega (arith, long-size (ltb-false _ _ e), width-most)
 
   pub number-size-1 : n < 253 → (1 ≡ length (numberBytes n)) × (1 ≤ 9)
   number-size-1 h = (sym (short-size h), lit≤ tt)
