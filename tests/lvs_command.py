@@ -3,8 +3,8 @@
 
 usage: lvs_command.py
 
-Every subcommand, every exit status, every refusal and every error text; the examples in README and in the help texts; and builds, in a copy
-of tools/ with another rt. Models are made with tests/cases/build.py.
+Every subcommand, every exit status, every refusal and every error text; the examples in README and in the help texts; texts of models,
+shown and built again; and builds, in a copy of tools/ with another rt. Models are made with tests/cases/build.py.
 """
 import concurrent.futures
 import functools
@@ -24,10 +24,14 @@ ROOT = pathlib.Path(__file__).resolve().parent.parent
 sys.path[:0] = [str(ROOT / "tests/cases"), str(ROOT / "tools")]
 sys.dont_write_bytecode = True
 import name as names  # noqa: E402
+import texts  # noqa: E402
 import uris  # noqa: E402
 from bench import A, B  # noqa: E402
 from build import *  # noqa: E402, F403
-from lvs_command import answers, driver, refusals  # noqa: E402
+from lvs_command import answers, description, driver, refusals, text as text_form  # noqa: E402
+from random_models import canonical, random_models  # noqa: E402
+from run_cases import TABLES, table  # noqa: E402
+from texts import A_TEXT, B_TEXT, LEAST  # noqa: E402
 
 EXAMPLE = (ROOT / "example/model.lvs").read_bytes()
 REQUESTS = (ROOT / "example/requests.txt").read_text()
@@ -57,7 +61,20 @@ def chain(count):
     return model(*(node(i, *([parent(i - 1)] if i else []), *([value_edge(i + 1, "p")] if i + 1 < count else [])) for i in range(count)))
 
 
+def many_numbers(options):
+    """A model of 256 nodes and one edge with a constraint of so many options. An option of a component of no bytes is 4 numbers in 6 bytes."""
+    many = [option(value(component("")))] * options
+    return model(node(0, parent(0), pattern_edge(0, 1, constraint(*many))), *map(node, range(1, 256)))
+
+
+# its description has 4 numbers, 6 for each node, 1 for the Parent, 3 for the edge, 1 for the constraint and 4 for each option; an accepted
+# model's has at most 22,516
+FITTING = (min(driver.NUMBERS, 22516) - (4 + 6 * 256 + 1 + 3 + 1)) // 4
+
+
 FILES = {
+    "fitting.lvs": many_numbers(FITTING),
+    "numbers.lvs": many_numbers(FITTING + 1),
     "example.lvs": EXAMPLE,
     "a.lvs": A,
     "named.lvs": NAMED,
@@ -103,6 +120,8 @@ REFUSED = {
     25: f"refused 25: the key name is {NOT_A_NAME}",
     26: "refused 26: the key name has more than 32 components",
     27: "refused 27: the buffer for the bindings has fewer than 256 words",
+    30: "refused 30: the two lists are no description, or too short for the model's",
+    31: "refused 31: the buffer for the model is too short",
 }
 
 
@@ -359,6 +378,231 @@ def named_objects():
     yield shown(6, 5, [])
 
 
+NAMED_TEXT = """\
+start 0
+patterns 2
+
+node 0
+  rule #top
+  edge value v=3 to 1
+  edge tag 1 to 2
+
+node 1
+  parent 0
+  rule #time
+  rule #v
+  edge tag 2 to 3
+    constraint
+      option value x
+      option tag 1
+
+node 2
+  parent 0
+  edge tag 3 to 4
+    constraint
+    constraint
+      option $eq(tag 1)
+      option $eq_type(value a%3Db)
+
+node 3
+  parent 1
+  rule #end
+  signer 2
+  signer 1
+
+node 4
+  parent 2
+  signer 3
+
+node 5
+  edge value y to 6
+
+node 6
+  parent 5
+
+symbol 1 user
+symbol 2 part
+symbol 3 part
+symbol 1 again
+"""
+
+
+def show_runs():
+    yield Run(["show", "named.lvs"], 0, NAMED_TEXT)
+    yield Run(["show", "a.lvs"], 0, A_TEXT)
+    yield Run(["show", "longest.lvs"], 0, A_TEXT)
+    yield Run(["show", "-"], 0, B_TEXT, given=B)
+    yield Run(["show", "--json", "-"], 0, '{"answer": "described", "numbers": [0, 1, 2, 0, 0, 0, 0, 1, 1, 1, 0, 0, 1, 1, 0, 0, 0, 0, 1, 1, 0], '
+              '"texts": ""}\n', given=B)
+    texts_of = "#top" + "\x03" + "#time" + "#v" + "x" + "$eq" + "$eq_type" + "a=b" + "#end" + "y" + "user" + "part" + "part" + "again"
+    numbers = [0, 2, 7, 0, 0, 1, 4, 1, 1, 54, 1, 1, 2, 1, 0, 0, 1, 1, 0, 2, 5, 2, 0, 1, 3, 2, 1, 2, 1, 0, 8, 1, 1, 1, 1, 0]
+    numbers += [2, 1, 0, 0, 0, 1, 4, 3, 2, 0, 2, 1, 2, 3, 1, 1, 1, 1, 2, 8, 1, 0, 8, 3, 0, 3, 1, 1, 1, 4, 0, 0, 2, 2, 1]
+    numbers += [4, 1, 2, 0, 0, 0, 1, 3, 5, 0, 0, 1, 6, 8, 1, 0, 0, 6, 1, 5, 0, 0, 0, 0, 4, 1, 4, 2, 4, 3, 4, 1, 5]
+    yield Run(["show", "--json", "named.lvs"], 0, json.dumps({"answer": "described", "numbers": numbers, "texts": texts_of.encode().hex()}) + "\n")
+    yield Run(["show", "-"], 2, REFUSED[2] + "\n")
+    for number in range(1, 13):
+        yield Run(["show", f"r{number}.lvs"], 2, REFUSED[number] + "\n")
+    for file in ("r1-driver.lvs", "r1-above.lvs", "r1-far.lvs"):
+        yield Run(["show", file], 2, REFUSED[1] + "\n")
+    meaning = REFUSED[9].partition(": ")[2]
+    yield Run(["show", "--json", "r9.lvs"], 2, f'{{"answer": "refused", "number": 9, "node": 1, "meaning": "{meaning}"}}\n')
+    options = "      option value ...\n" * FITTING
+    nodes = "".join(f"\nnode {i}\n" for i in range(1, 256))
+    yield Run(["show", "fitting.lvs"], 0, f"start 0\npatterns 0\n\nnode 0\n  parent 0\n  edge tag 1 to 0\n    constraint\n{options}{nodes}")
+    if driver.NUMBERS < 22516:
+        most = f"its description has more than {driver.NUMBERS:,} numbers, which is the most that lvs_cases takes"
+        yield Run(["show", "numbers.lvs"], 3, "", f"lvs: the model is accepted, but {most}\n")
+
+
+# texts that are built
+
+
+def refused_words(number, node):
+    return answers.Refused(number, node).words()
+
+
+def check_texts(folder):
+    """Texts from standard input: what is written, or that nothing is."""
+    asked = []
+    flat = NAMED_TEXT.replace("\n\n", "\n").replace("  ", "")
+    named = ("named.lvs", NAMED_TEXT, canonical(NAMED)), ("named.lvs without blank lines and indentation", flat, canonical(NAMED))
+    for what, text, of in [*named, *texts.built()]:
+        nodes = driver.judge(of).nodes
+        asked.append((what, text, [], 0, f"written: {len(of)} bytes, {answers.counted(nodes, 'node')}\n", "", of))
+    for lines, mistakes in texts.mistakes():
+        err = "".join(f"standard input:{line}: {mistake}\n" for line, mistake in mistakes)
+        asked.append((" | ".join(lines)[:100], "\n".join([*LEAST, *lines]) + "\n", [], 3, "", err, None))
+    for text, number, at, places in texts.refused():
+        out = refused_words(number, at) + "\n" + "".join(f"  standard input:{line}: {what}\n" for line, what in places)
+        asked.append((f"refusal {number}", text, [], 2, out, "", None))
+    end = "found the end of the text"
+    no_start, no_patterns = f"expected a line `start INDEX`, {end}\n", f"expected a line `patterns COUNT`, {end}\n"
+    asked.append(("an empty text", "", [], 3, "", f"standard input:1: {no_start}standard input:1: {no_patterns}", None))
+    asked.append(("no start", "patterns 0\nnode 0", [], 3, "", f"standard input:2: {no_start}", None))
+    asked.append(("no patterns", "start 0\nnode 0\n", [], 3, "", f"standard input:3: {no_patterns}", None))
+    many = "".join(f"standard input:{i}: expected a node index after 'signer', found 'x'\n" for i in range(4, 24))
+    for count, rest in (20, ""), (21, "lvs: 1 more mistake\n"), (500, "lvs: 480 more mistakes\n"):
+        asked.append((f"{count} mistakes", "\n".join(LEAST + ["signer x"] * count), [], 3, "", many + rest, None))
+    mistake = '"answer": "error", "error": "expected a node index after \'signer\', found the end of the line"'
+    both = f'{{"line": 4, {mistake}}}\n{{"line": 6, {mistake}}}\n'
+    asked.append(("mistakes, --json", "\n".join([*LEAST, "signer", "", "signer"]), ["--json"], 3, both, "", None))
+    asked.append(("written, --json", A_TEXT, ["--json"], 0, '{"answer": "written", "bytes": 17, "nodes": 1}\n', "", A))
+    meaning, places = REFUSED[9].partition(": ")[2], '[{"line": 4, "text": "node 0"}]'
+    refused = f'{{"answer": "refused", "number": 9, "node": 0, "meaning": "{meaning}", "places": {places}}}\n'
+    asked.append(("refused, --json", A_TEXT + "signer 9", ["--json"], 2, refused, "", None))
+    signers = driver.NUMBERS + 1 - 10  # bench A's description has 10 numbers
+    most = f"lvs: the description has {driver.NUMBERS + 1:,} numbers, and {driver.NUMBERS:,} is the most that lvs_cases takes\n"
+    asked.append(("too many numbers", A_TEXT + "signer 0\n" * signers, [], 3, "", most, None))
+    of = model(node(0, *[signer(0)] * (signers - 1)))
+    if len(of) <= 32768:
+        asked.append(("as many numbers as can be", A_TEXT + "signer 0\n" * (signers - 1), [], 0, f"written: {len(of)} bytes, 1 node\n", "", of))
+    most = "lvs: the description has 65,537 bytes of text, and 65,536 is the most that lvs_cases takes\n"
+    asked.append(("too many bytes of text", A_TEXT + f"rule #{'r' * 65536}", [], 3, "", most, None))
+    asked.append(("a byte 0", A_TEXT + "\0", [], 3, "", "lvs: the text '-' has a byte 0, so it is no text (lvs show prints a model as text)\n", None))
+    asked.append(("a long text", A_TEXT + " " * (1 << 24), [], 3, "", "lvs: the text '-' is longer than 16,777,216 bytes\n", None))
+
+    def built(i):
+        _, text, words, *_ = asked[i]
+        return run(["build", *words, "-", f"built-{i}.lvs"], folder, text.encode("utf-8", "surrogateescape"))
+
+    with concurrent.futures.ThreadPoolExecutor(os.cpu_count()) as pool:
+        for i, ended in enumerate(pool.map(built, range(len(asked)))):
+            what, _, _, *expected, of = asked[i]
+            check(f"build, {what}", ended, tuple(expected))
+            file = folder / f"built-{i}.lvs"
+            check(f"the model of {what}", file.read_bytes() if file.exists() else None, of)
+
+
+def text_of(described):
+    return "".join(line + "\n" for line in text_form.lines(description.from_lists(described.numbers, described.texts)))
+
+
+def check_files(folder):
+    """The files of `lvs build`: a text from a file; the model replaced as a whole, or not at all, and nothing left beside it."""
+    place = folder / "files"
+    place.mkdir()
+    good, wrong, bad = place / "good.txt", place / "wrong.txt", place / "bad.txt"
+    good.write_text(B_TEXT)
+    wrong.write_text(A_TEXT + "edge value a to x\n")
+    bad.write_text(A_TEXT + "\nsigner 1\n")
+    (place / "old.lvs").write_bytes(A)
+    (place / "old.lvs").chmod(0o640)
+    (place / "link.lvs").symlink_to("old.lvs")
+    (place / "folder").mkdir()
+    os.mkfifo(place / "pipe")
+    names_before = set(os.listdir(place))
+    see = "(see lvs build --help)"
+    for words, ended in (
+        (["wrong.txt", "old.lvs"], (3, "", "wrong.txt:5: expected a node index after 'to', found 'x'\n")),
+        (["bad.txt", "old.lvs"], (2, f"{refused_words(9, 0)}\n  bad.txt:4: node 0\n", "")),
+        (["none.txt", "old.lvs"], (3, "", "lvs: cannot read the text 'none.txt': No such file or directory\n")),
+        (["folder", "old.lvs"], (3, "", "lvs: cannot read the text 'folder': Is a directory\n")),
+        (["old.lvs", "link.lvs"], (3, "", f"lvs build: TEXT and MODEL are the same file {see}\n")),
+        (["good.txt", "good.txt"], (3, "", f"lvs build: TEXT and MODEL are the same file {see}\n")),
+        (["good.txt", "-"], (3, "", f"lvs build: MODEL is the file to write, and - is none {see}\n")),
+        (["old.lvs", "new.lvs"], (3, "", "lvs: the text 'old.lvs' has a byte 0, so it is no text (lvs show prints a model as text)\n")),
+        (["good.txt", "none/x.lvs"], (3, "", "lvs: cannot write the model 'none/x.lvs': No such file or directory\n")),
+        (["good.txt", "old.lvs/x"], (3, "", "lvs: cannot write the model 'old.lvs/x': Not a directory\n")),
+        (["good.txt", "folder"], (3, "", "lvs: cannot write the model 'folder': not a regular file\n")),
+        (["good.txt", "pipe"], (3, "", "lvs: cannot write the model 'pipe': not a regular file\n")),
+        (["good.txt", "/dev/null"], (3, "", "lvs: cannot write the model '/dev/null': not a regular file\n")),
+        (["good.txt"], (3, "", f"lvs build: the following arguments are required: MODEL {see}\n")),
+        ([], (3, "", f"lvs build: the following arguments are required: TEXT, MODEL {see}\n")),
+    ):
+        check(f"build {words}", run(["build", *words], place), ended)
+        check(f"the files after build {words}", (set(os.listdir(place)), (place / "old.lvs").read_bytes()), (names_before, A))
+    shell = "ulimit -f 0; exec " + " ".join(COMMAND)
+    ended = run([f"{shell} build good.txt old.lvs"], place, command=["bash", "-c"])
+    check("a write that fails", ended, (3, "", "lvs: cannot write the model 'old.lvs': File too large\n"))
+    check("the files after it", (set(os.listdir(place)), (place / "old.lvs").read_bytes()), (names_before, A))
+    check("a text from a file", run(["build", "good.txt", "link.lvs"], place), (0, "written: 36 bytes, 2 nodes\n", ""))
+    old = place / "old.lvs"
+    found = old.read_bytes(), old.stat().st_mode & 0o777, (place / "link.lvs").is_symlink(), set(os.listdir(place))
+    check("the model, its permissions, the link", found, (B, 0o640, True, names_before))
+    ended = run([f"umask 027; exec {' '.join(COMMAND)} build good.txt new.lvs"], place, command=["bash", "-c"])
+    found = (place / "new.lvs").read_bytes(), (place / "new.lvs").stat().st_mode & 0o777
+    check("a new model", (ended, found), ((0, "written: 36 bytes, 2 nodes\n", ""), (B, 0o640)))
+    check("and shown", run(["show", "new.lvs"], place), (0, B_TEXT, ""))
+
+
+def all_models():
+    """Models of any kind: the examples', those of the run cases, with components of every type and byte, and random ones."""
+    yield from (A, B, EXAMPLE, NAMED, CYCLE, ANY, chain(256), many_numbers(FITTING))
+    yield from ((ROOT / f"tests/models/{name}.lvs").read_bytes() for name in ("bench_a", "bench_b"))
+    for name in TABLES:
+        for _, case, _ in table(name):
+            if case[:1] != b"W":
+                yield case[5 : 5 + int.from_bytes(case[1:5], "big")]
+    values = [b"", b".", b"...", bytes(range(256)), bytes(32), bytes(8), bytes(9), b"\0\1", b"//", b"# x", b"to", b"a,b(c)"]
+    values += (bytes([i]) for i in range(256))
+    for typ in (1, 2, 7, 8, 50, 52, 54, 56, 58, 252, 253, 65535):
+        of = [component(one, typ) for one in values]
+        options = constraint(*(option(value(one)) for one in of), *(option(call("$eq", value(one))) for one in of))
+        yield model(node(0, parent(0), *(value_edge(0, one) for one in of), pattern_edge(0, 1, options)))
+    yield from random_models(500)
+
+
+def check_round_trips():
+    """Each accepted model: shown, read, built and shown again, without a process for each."""
+    models = list(dict.fromkeys(all_models()))
+    verdicts = driver.ask([driver.verdict_case(of) for of in models])
+    models = [of for of, verdict in zip(models, verdicts) if isinstance(verdict, answers.Accepted)]
+    check("how many models there are", len(models) >= 650, True)
+    shown, lists = [], []
+    for of, answer in zip(models, driver.ask(list(map(driver.describe_case, models)))):
+        check(f"the description of {of.hex()}"[:100], isinstance(answer, answers.Described), True)
+        shown.append(text_of(answer))
+        reader = text_form.Reader().read(shown[-1])
+        check(f"mistakes in the text of {of.hex()}"[:100], reader.mistakes, [])
+        lists.append(description.Lists(reader.description))
+        check(f"the lists of {of.hex()}"[:100], (lists[-1].numbers, bytes(lists[-1].texts)), (answer.numbers, answer.texts))
+    built = driver.ask([driver.write_case(one.numbers, one.texts) for one in lists])
+    again = driver.ask([driver.describe_case(one.model) for one in built])
+    for of, text, one, described in zip(models, shown, built, again):
+        check(f"{of.hex()}, built"[:100], one, answers.Written(canonical(of)))
+        check(f"{of.hex()}, shown again"[:100], text_of(described), text)
+
+
 def error_runs():
     see, sign_see = "(see lvs --help)", "(see lvs sign --help)"
     yield Run([], 3, "", f"lvs: the following arguments are required: COMMAND {see}\n")
@@ -371,7 +615,8 @@ def error_runs():
     yield Run(["tree"], 3, "", "lvs tree: the following arguments are required: MODEL (see lvs tree --help)\n")
     yield Run(["judge", "a.lvs", "b.lvs"], 3, "", f"lvs: unrecognized arguments: b.lvs {see}\n")
     yield Run(["judge", "--jso", "a.lvs"], 3, "", f"lvs: unrecognized arguments: --jso {see}\n")
-    for words in (["judge"], ["match", "/"], ["sign", "/", "/"], ["sign", "-"], ["tree"]):
+    yield Run(["show"], 3, "", "lvs show: the following arguments are required: MODEL (see lvs show --help)\n")
+    for words in (["judge"], ["match", "/"], ["sign", "/", "/"], ["sign", "-"], ["tree"], ["show"]):
         for file, why in ("none.lvs", "No such file or directory"), (".", "Is a directory"), ("a.lvs/b", "Not a directory"):
             yield Run([words[0], file, *words[1:]], 3, "", f"lvs: cannot read the model {file!r}: {why}\n")
     types = "1 to 65535, or sha256digest, params-sha256, seg, off, v, t, seq (= in a value is %3D)"
@@ -425,7 +670,7 @@ def run(words, folder, given=b"", command=COMMAND, **how):
 
 
 def check_runs(folder):
-    runs = [*judge_runs(), *match_runs(), *sign_runs(), *batch_runs(), *tree_runs(), *error_runs()]
+    runs = [*judge_runs(), *match_runs(), *sign_runs(), *batch_runs(), *tree_runs(), *show_runs(), *error_runs()]
     with concurrent.futures.ThreadPoolExecutor(os.cpu_count()) as pool:
         found = pool.map(lambda one: run(one.words, folder, one.given), runs)
         for one, ended in zip(runs, found):
@@ -473,6 +718,10 @@ def check_streams(folder):
         ("sign a.lvs - <&-", 3, "", "lvs: standard input is closed\n"),
         ("judge - 0>/dev/null", 3, "", "lvs: cannot read the model '-': Bad file descriptor\n"),
         ("sign a.lvs - 0>/dev/null", 3, "", "lvs: cannot read standard input: Bad file descriptor\n"),
+        ("show a.lvs >/dev/full", 3, "", "lvs: cannot write the answer: No space left on device\n"),
+        ("show - <&-", 3, "", "lvs: standard input is closed\n"),
+        ("build - x.lvs <&-", 3, "", "lvs: standard input is closed\n"),
+        ("build - x.lvs 0>/dev/null", 3, "", "lvs: cannot read the text '-': Bad file descriptor\n"),
     ):
         check(words, run([f"{shell} {words}"], folder, command=["bash", "-c"]), (status, out, err))
     pipes = {"stdin": subprocess.PIPE, "stdout": subprocess.PIPE, "stderr": subprocess.PIPE}
@@ -526,7 +775,7 @@ def examples(text):
 
 def check_examples():
     help_texts = {"lvs --help": ""}
-    for command in ("judge", "match", "sign", "tree"):
+    for command in ("judge", "match", "sign", "tree", "show", "build"):
         help_texts[f"lvs {command} --help"] = "example:"
     place = {**os.environ, "PATH": f"{ROOT / 'tools'}:{os.environ['PATH']}"}
     readme = (ROOT / "README.md").read_text().partition("## Run it")[2].partition("\n## ")[0]
@@ -537,10 +786,13 @@ def check_examples():
         check(words, (status, out.startswith(f"usage: {words.removesuffix(' --help')} "), part in out, err), (0, True, True, ""))
         check(f"the width of {words}", [line for line in out.splitlines() if len(line) > 95 and not line.startswith("  ")], [])
         shown += [(words, one) for one in examples(out)]
-    check("how many examples the help has", len(shown) >= 9, True)
-    for where, (command, expected) in shown:
-        ran = subprocess.run(["bash", "-c", command], cwd=ROOT, env=place, stdout=subprocess.PIPE, stderr=subprocess.PIPE)
-        check(f"{where}: {command}", (ran.stdout.decode(), ran.stderr), (expected, b""))
+    check("how many examples the help has", len(shown) >= 18, True)
+    with tempfile.TemporaryDirectory() as folder:  # for the files that they write
+        for part in ("tools", "example"):
+            os.symlink(ROOT / part, f"{folder}/{part}")
+        for where, (command, expected) in shown:
+            ran = subprocess.run(["bash", "-c", command], cwd=folder, env=place, stdout=subprocess.PIPE, stderr=subprocess.PIPE)
+            check(f"{where}: {command}", (ran.stdout.decode(), ran.stderr), (expected, b""))
 
 
 # building, in a copy of tools/ with another rt
@@ -607,6 +859,9 @@ def check_builds(folder):
     check("a broken case", judged(), (3, "", "lvs: lvs_cases printed 'broken', which is no answer\n"))
     programmed(program, "cat >/dev/null; exit 4")
     check("no answer", judged(), (3, "", "lvs: lvs_cases ended with status 4 and 0 lines for 1 case\n"))
+    for line in ("written 3 00", "described 1 0 00", "described 1 3 5 00", "written 1 0", "described 0 0", "written"):
+        programmed(program, f"cat >/dev/null; echo {line}")
+        check(f"the line {line}", judged(), (3, "", f"lvs: lvs_cases printed {line!r}, which is no answer\n"))
     for line in ("accepted 1", "refused 2 0"):
         programmed(program, f"cat >/dev/null; echo {line}")
         text = f"lvs: lvs_cases takes only 65,536 bytes of this input, and answers {line!r}\n"
@@ -625,10 +880,13 @@ def main_checks():
         check_runs(folder)
         check_streams(folder)
         check_terminal(folder)
+        check_texts(folder)
+        check_files(folder)
     with tempfile.TemporaryDirectory() as name:
         check_builds(pathlib.Path(name).resolve())
     check_table()
     check_uris()
+    check_round_trips()
     check_fault()
     check_examples()
     print(f"lvs: {counts['checks']} checks, {counts['wrong']} wrong")

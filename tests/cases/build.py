@@ -146,6 +146,18 @@ def sign(of, packet, key):
     return b"S" + field(of) + field(packet) + field(key)
 
 
+def number_field(numbers):
+    return field(b"".join(n.to_bytes(8, "big") for n in numbers))
+
+
+def write(numbers, texts, output):
+    return b"W" + number_field(numbers) + field(texts) + field(output)
+
+
+def describe(of, numbers, texts):
+    return b"D" + field(of) + number_field(numbers) + field(texts)
+
+
 def words_line(words):
     return "".join(f" {word}" for word in words)
 
@@ -164,3 +176,7 @@ def matched(at, *bound, behind=()):
 def kept(answer, words=OLD):
     """The line of another answer: all words as they were."""
     return answer + words_line(words)
+
+
+def bytes_line(data):
+    return f" {data.hex()}" if data else ""

@@ -1,4 +1,5 @@
-"""The answers of the three calls, read from the driver's lines: each as words, as an object for --json, and as an exit status."""
+"""The answers of the calls, read from the driver's lines: each as words, as an object for --json, and as an exit status."""
+import re
 from collections import namedtuple
 
 from name import component_uri
@@ -78,14 +79,39 @@ class NotAllowed(Answer, namedtuple("Numbers", "")):
     answer, status = "not allowed", NO
 
 
+class Written(Answer, namedtuple("Numbers", "model")):
+    """The bytes of a model."""
+
+    answer, status = "written", YES
+
+
+class Described(Answer, namedtuple("Numbers", "numbers texts")):
+    """The two lists of a model's description."""
+
+    answer, status = "described", YES
+
+    def object(self, labels=None):
+        return {"answer": self.answer, "numbers": self.numbers, "texts": self.texts.hex()}
+
+
+def all_numbers(words):
+    return [int(word) for word in words if word.isdigit()]
+
+
+def is_bytes(word):
+    return len(word) % 2 == 0 and re.fullmatch("[0-9a-f]+", word)
+
+
 def read_answer(line):
-    """The answer in a line of lvs_cases. A match call's line goes on with all words of the buffer."""
+    """The answer in a line of lvs_cases, which goes on with all that was lent to the call: numbers, then bytes in hexadecimal."""
     words = line.split()
-    numbers = [int(word) for word in words if word.isdigit()]
+    if words[:1] == ["refused"] and len(numbers := all_numbers(words[1:3])) == 2:
+        return Refused(*numbers)
+    if words[:1] in (["written"], ["described"]):
+        return read_lent(words) or no_answer(line)
+    numbers = all_numbers(words)
     if words[:1] == ["accepted"] and len(numbers) == 1:
         return Accepted(*numbers)
-    if words[:1] == ["refused"] and len(numbers) >= 2:
-        return Refused(*numbers[:2])
     if words[:1] == ["match"] and len(numbers) == 2 + WORDS:
         return Match(*numbers[:2], tuple(numbers[2:]))
     if words[:2] == ["no", "match"]:
@@ -94,4 +120,21 @@ def read_answer(line):
         return Allowed(*numbers)
     if words == ["not", "allowed"]:
         return NotAllowed()
+    return no_answer(line)
+
+
+def read_lent(words):
+    """What a call wrote into what it was lent, which here is never empty; None where the words don't say it."""
+    *words, lent = words
+    if not is_bytes(lent):
+        return None
+    numbers, lent = all_numbers(words), bytes.fromhex(lent)
+    if words[0] == "written" and len(numbers) == 1 and numbers[0] <= len(lent):
+        return Written(lent[: numbers[0]])
+    if words[0] == "described" and len(numbers) >= 2 and numbers[0] <= len(numbers) - 2 and numbers[1] <= len(lent):
+        return Described(numbers[2 : 2 + numbers[0]], lent[: numbers[1]])
+    return None
+
+
+def no_answer(line):
     raise Failure(f"lvs_cases printed {line[:60]!r}, which is no answer")

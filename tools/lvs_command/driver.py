@@ -3,12 +3,14 @@ import functools
 import os
 import pathlib
 import shutil
+import struct
 import subprocess
 import time
 from typing import NamedTuple
 
 from .answers import WORDS, Refused, counted, read_answer
 from .errors import Failure, say
+from .refusals import LISTS
 
 ROOT = pathlib.Path(__file__).resolve().parents[2]
 PROGRAM = ROOT / "target/bin/lvs_cases"
@@ -27,6 +29,7 @@ class Field(NamedTuple):
 
 
 MODEL, PACKET, KEY = Field(65536, 1), Field(4096, 21), Field(4096, 24)
+NUMBERS, TEXTS, OUTPUT = 8192, 65536, 65536  # numbers and bytes of a description, and bytes of what is written, that the driver takes
 
 
 def verdict_case(model):
@@ -39,6 +42,16 @@ def match_case(model, name):
 
 def sign_case(model, packet, key):
     return "S", ((MODEL, model), (PACKET, packet), (KEY, key))
+
+
+def describe_case(model):
+    """The lists are as long as can be. The texts always fit: each is a part of the model."""
+    return "D", ((MODEL, model), (None, bytes(8 * NUMBERS)), (None, bytes(TEXTS)))
+
+
+def write_case(numbers, texts):
+    """The output always suffices: a model that is longer is refused before."""
+    return "W", ((None, struct.pack(f">{len(numbers)}Q", *numbers)), (None, bytes(texts)), (None, bytes(OUTPUT)))
 
 
 def written(case):
@@ -72,6 +85,20 @@ def ask(cases):
 
 def judge(model):
     return ask([verdict_case(model)])[0]
+
+
+def describe(model):
+    answer = ask([describe_case(model)])[0]
+    if isinstance(answer, Refused) and answer.number == LISTS:
+        raise Failure(f"the model is accepted, but its description has more than {NUMBERS:,} numbers, which is the most that lvs_cases takes")
+    return answer
+
+
+def write(numbers, texts):
+    for count, most, what in (len(numbers), NUMBERS, "numbers"), (len(texts), TEXTS, "bytes of text"):
+        if count > most:
+            raise Failure(f"the description has {count:,} {what}, and {most:,} is the most that lvs_cases takes")
+    return ask([write_case(numbers, texts)])[0]
 
 
 # building

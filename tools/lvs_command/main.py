@@ -2,23 +2,24 @@
 import signal
 import sys
 
-from . import judge, match, sign, tree
+from . import build, judge, match, show, sign, tree
 from .errors import ERROR, Failure, say
 from .parser import Parser
 
-SUBCOMMANDS = judge, match, sign, tree
+SUBCOMMANDS = judge, match, sign, tree, show, build
 
-DESCRIPTION = "Asks a compiled Light VerSec (LVS) model. The answers are the proved library's, in words."
+DESCRIPTION = "Asks and changes compiled Light VerSec (LVS) models. The answers are the proved library's."
 EPILOG = """\
 MODEL is a file, or - for standard input. A name is a URI, or 0x and bytes in hexadecimal:
   /ndn/blog/x   ndn:/a/%2Fb   /ndn/v=3   /8=x/...   0x0703080161
 `lvs COMMAND --help` explains a command, with an example.
 
 exit status:
-  0  accepted, matched or allowed
+  0  accepted, matched, allowed, shown or built
   1  no match, or not allowed
   2  refused: the answer has the refusal number and what it means
-  3  no answer: wrong usage, a malformed URI, a file that cannot be read, a failed build
+  3  no answer: wrong usage, a malformed URI, a mistake in a text, a file that cannot be read or
+     written, a failed build
 """
 
 

@@ -19,11 +19,17 @@ class Parser(argparse.ArgumentParser):
         sys.exit(ERROR)
 
 
+def add_bare_command(commands, name, run, summary, details):
+    """The parser of a subcommand, without its arguments."""
+    command = commands.add_parser(name, help=summary, description=summary, epilog=details)
+    command.set_defaults(run=run, parser=command)
+    command.add_argument("--json", action="store_true", help="print one JSON object a line")
+    return command
+
+
 def add_command(commands, name, run, summary, details):
     """The parser of a subcommand that takes a model."""
-    command = commands.add_parser(name, help=summary, description=summary, epilog=details)
-    command.set_defaults(run=run)
-    command.add_argument("--json", action="store_true", help="print one JSON object a line")
+    command = add_bare_command(commands, name, run, summary, details)
     command.add_argument("model", metavar="MODEL", help="the model's file, or - for standard input")
     return command
 
@@ -41,13 +47,17 @@ def input_lines():
         raise Failure(f"cannot read standard input: {fault.strerror}") from None
 
 
-def model_bytes(path):
-    """The bytes of a model; of one that is longer than the driver takes, one byte more than that."""
+def file_bytes(path, what, longest):
+    """The bytes of a file or of standard input; of one that is longer, one byte more than that."""
     try:
         with open(path, "rb") if path != "-" else contextlib.nullcontext(standard_input().buffer) as file:
-            return file.read(MODEL.longest + 1)
+            return file.read(longest + 1)
     except OSError as fault:
-        raise Failure(f"cannot read the model {path!r}: {fault.strerror}") from None
+        raise Failure(f"cannot read the {what} {path!r}: {fault.strerror}") from None
+
+
+def model_bytes(path):
+    return file_bytes(path, "model", MODEL.longest)
 
 
 def name_bytes(text, what):

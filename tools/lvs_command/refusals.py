@@ -27,8 +27,11 @@ REFUSALS = {
     25: Refusal("the key name is malformed: it is not one name element with nothing but components in it"),
     26: Refusal("the key name has more than 32 components"),
     27: Refusal("the buffer for the bindings has fewer than 256 words"),
+    30: Refusal("the two lists are no description, or too short for the model's"),
+    31: Refusal("the buffer for the model is too short"),
 }
 
+LISTS = 30
 LAST_UNREADABLE = 3  # a model refused with this number or a lower one can't be read as nodes and edges
 
 

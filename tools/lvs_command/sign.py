@@ -37,7 +37,6 @@ def add(commands):
     command = add_command(commands, "sign", run, "Say whether a key may sign a packet, by their names.", DETAILS)
     command.add_argument("packet", metavar="PACKET", help="the packet's name, or - for pairs of names from standard input")
     command.add_argument("key", metavar="KEY", nargs="?", help="the key's name, where the packet's is given")
-    command.set_defaults(parser=command)
 
 
 def run(args):
