@@ -4,3 +4,5 @@ pub mod Fronts
 pub mod Many
 pub mod Nested
 pub mod Places
+pub mod Containers
+pub mod Heights

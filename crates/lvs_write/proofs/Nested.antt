@@ -9,7 +9,7 @@ use borrow.Author.Tests.{leb-true, leb-false}
 use borrow.Rule.Slice.PartMut.{putMid}
 use lib.Dec.{leb}
 use lib.ListN.{length, take, drop, length-take, length-drop}
-use lib.Seq.{length-take-le}
+use lib.Seq.{length-take-le, take-at, drop-at, drop-drop}
 use Rattle.tlv_writer.specs.Stored.{Stored}
 use Rattle.tlv_writer.proofs.Stores.{stored-both, stored-length, stored-inside}
 use Rattle.lvs_description.specs.Format.{Lists}
@@ -70,7 +70,7 @@ module _ {g : Lists → Bytes} {ns ts e e′ : List ℕ} (s : Cursor) {m : Curso
       go false q = absurd (apart (sym (M .moved ∙ ap (movedBy g) (state-not ns ts (front s) q) ∙ moved-nothing g) ∙ there))
 
   -- no inside, no element
-  pub nested-stopped : (t : ℕ) {b : List ℕ} → m .ok ≡ false → Writes (λ l. wrapped t (g l)) ns ts b b s m
+  pub nested-stopped : (t : ℕ) {b now : List ℕ} → m .ok ≡ false → Writes (λ l. wrapped t (g l)) ns ts b now s m
   unfolding wrapped
   nested-stopped t e = stopped-wrote e (λ k l p. go (s .ok) refl k l p)
     where
@@ -144,3 +144,14 @@ module _ {g : Lists → Bytes} {ns ts e e′ : List ℕ} (s : Cursor) {m : Curso
         let behind = stored-inside b₁ start (end - start) (omega arith) (omega (arith, x .0)) back in
         let head : headerBytes t n ++ bs ≡ el t bs = ap (λ (j : ℕ). headerBytes t j ++ bs) (x .0) ∙ header-then t bs in
         subst (Stored b (putMid start (end - start) b₁ y) (s .at)) head (stored-both H behind (sym start-is)))
+
+-- nothing was written into a part of no bytes
+pub untouched : (b y : List ℕ) → length y ≡ length (take 0 (drop 0 b)) → putMid 0 0 b y ≡ b
+untouched b y e =
+    let none-there : length (take 0 (drop 0 b)) ≡ 0 = simp length-take (omega arith) in
+    let y-is : y ≡ [] = nil y (e ∙ none-there) in
+    (λ i. take-at [] b 0 refl i ++ (y-is i ++ drop-drop 0 0 b i)) ∙ drop-at [] b 0 refl
+  where
+    nil : (l : List ℕ) → length l ≡ 0 → l ≡ []
+    nil [] p = refl
+    nil (x ∷ l) p = absurd (omega arith)

@@ -3,11 +3,18 @@
 // part of the buffer that is lent to its writer.
 mod leaves;
 mod lists;
+mod parts;
 
 ghost use mathlib.Core.Path.{_≡_};
 ghost use Rattle.lvs_description.specs.Description.{model, descriptionOf};
 ghost use Rattle.lvs_write.specs.Spelled.{spelled};
 ghost use Rattle.lvs_write.specs.Steps.{first, sizeOf, Writes, WritesVersion, Written};
+use leaves::has_room;
+use leaves::write_integer;
+use lvs_spec::types::NAMED_PATTERN_CNT;
+use lvs_spec::types::NODE_ID;
+use parts::write_many;
+use tlv_writer::put_bytes;
 
 // Where the next number and the next text are, and how many bytes there are so far. `ok` falls where no description can stand any more.
 struct Cursor {
@@ -43,3 +50,55 @@ pub enum Size {
     Bytes(usize),
 }
 
+const VERSION: [u8; 6] = [0x61, 0x04, 0x00, 0x01, 0x10, 0x00];
+
+// How many bytes the description has that the two lists are, if they are one.
+pub fn described_size(numbers: &[u64], texts: &[u8]) -> Size
+    ensures { λ r. ⌜ r ≡ sizeOf (descriptionOf (now (numbers .entry)) (now (texts .entry))) ⌝ }
+{
+    let mut nothing = [0u8; 0];
+    let c = write_model(numbers, texts, &mut nothing);
+    if !c.ok {
+        return Size::Nothing;
+    }
+    if c.number < numbers.len() {
+        return Size::Nothing;
+    }
+    if c.text < texts.len() {
+        return Size::Nothing;
+    }
+    Size::Bytes(c.at)
+}
+
+// Writes the bytes of a description over the front of a buffer that has room for them; those behind stay.
+pub fn write_description(numbers: &[u64], texts: &[u8], out: &mut [u8])
+    ensures { λ _. ⌜ Written (now (numbers .entry)) (now (texts .entry)) (now (out .entry)) (now (out .exit)) ⌝ }
+{
+    write_model(numbers, texts, out);
+}
+
+fn write_model(numbers: &[u64], texts: &[u8], out: &mut [u8]) -> Cursor
+    ensures { λ r.
+        ⌜ Writes (spelled model) (now (numbers .entry)) (now (texts .entry)) (now (out .entry)) (now (out .exit)) first r ⌝ }
+{
+    let version = write_version(out);
+    let start = write_integer(NODE_ID, numbers, out, version);
+    let count = write_integer(NAMED_PATTERN_CNT, numbers, out, start);
+    let nodes = write_many(Part::Nested(Container::Node), numbers, texts, out, count);
+    write_many(Part::Nested(Container::Symbol), numbers, texts, out, nodes)
+}
+
+// The first element, which the description does not mention.
+fn write_version(out: &mut [u8]) -> Cursor
+    ensures { λ r. ⌜ WritesVersion (now (out .entry)) (now (out .exit)) r ⌝ }
+{
+    if has_room(out.len(), 0, 6) {
+        put_bytes(out, 0, &VERSION);
+    }
+    Cursor {
+        ok: true,
+        number: 0,
+        text: 0,
+        at: 6,
+    }
+}
