@@ -1,0 +1,210 @@
+// The parts of a description that hold no row of others.
+ghost use mathlib.Core.Path.{_≡_};
+ghost use mathlib.Core.List.{List};
+ghost use Prim.Native.Nat.{ℕ};
+ghost use Rattle.tlv.specs.Fields.{numberOf, integers};
+ghost use Rattle.tlv.specs.Lists.{first};
+ghost use Rattle.lvs_spec.specs.Types as type;
+ghost use Rattle.lvs_spec.specs.Model.{componentOf, argumentOf, valueEdgeOf, symbolOf};
+ghost use Rattle.lvs_description.specs.Format.{put, component, integer, maybe};
+ghost use Rattle.lvs_description.specs.Description.{argument, valueEdge, symbol};
+ghost use Rattle.lvs_describe.specs.Parts.{shown, number};
+ghost use Rattle.lvs_describe.specs.Lent.{state, Describes};
+ghost use Rattle.lvs_describe.specs.Found.{ComponentAt, ArgumentAt};
+use crate::Component;
+use crate::Held;
+use crate::Room;
+use crate::Sort;
+use crate::lists::put_number;
+use crate::lists::put_text;
+use crate::rows::count_items;
+use lvs_spec::types::IDENTIFIER;
+use lvs_spec::types::NODE_ID;
+use lvs_spec::types::PARENT;
+use lvs_spec::types::TAG;
+use lvs_spec::types::VALUE;
+use tlv::Place;
+use tlv::Read;
+
+// 0, or 1 and the Parent.
+pub(crate) fn put_parent(node: &[u8], numbers: &mut [u64], room: Room) -> Room
+    ensures { λ r.
+        ⌜
+        ((ts : List ℕ) →
+        Describes (shown (maybe (integer type.Parent)) (first (integers type.Parent (now (node .entry)))))
+        (state room (now (numbers .entry)) ts) (state r (now (numbers .exit)) ts))
+        ⌝ }
+{
+    if count_items(node, Sort::Parent) < 1 {
+        return put_number(0, numbers, room);
+    }
+    let rest = put_number(1, numbers, room);
+    put_number(tlv::number_in(node, PARENT), numbers, rest)
+}
+
+pub(crate) fn put_value_edge(
+    edge: &[u8],
+    numbers: &mut [u64],
+    texts: &mut [u8],
+    room: Room,
+) -> Room
+    ensures { λ r.
+        ⌜
+        Describes (shown valueEdge (valueEdgeOf (now (edge .entry))))
+        (state room (now (numbers .entry)) (now (texts .entry))) (state r (now (numbers .exit)) (now (texts .exit)))
+        ⌝ }
+{
+    let rest = put_number(tlv::number_in(edge, NODE_ID), numbers, room);
+    let part = tlv::inside_of(edge, VALUE);
+    let start = part.start;
+    let end = part.end;
+    put_component(&edge[start..end], numbers, texts, rest)
+}
+
+pub(crate) fn put_symbol(
+    b: &[u8],
+    numbers: &mut [u64],
+    texts: &mut [u8],
+    room: Room,
+) -> Room
+    ensures { λ r.
+        ⌜
+        Describes (shown symbol (symbolOf (now (b .entry))))
+        (state room (now (numbers .entry)) (now (texts .entry))) (state r (now (numbers .exit)) (now (texts .exit)))
+        ⌝ }
+{
+    let rest = put_number(tlv::number_in(b, TAG), numbers, room);
+    let part = tlv::inside_of(b, IDENTIFIER);
+    let start = part.start;
+    let end = part.end;
+    put_text(&b[start..end], numbers, texts, rest)
+}
+
+pub(crate) fn put_argument(
+    b: &[u8],
+    numbers: &mut [u64],
+    texts: &mut [u8],
+    room: Room,
+) -> Room
+    ensures { λ r.
+        ⌜
+        Describes (shown argument (argumentOf (now (b .entry))))
+        (state room (now (numbers .entry)) (now (texts .entry))) (state r (now (numbers .exit)) (now (texts .exit)))
+        ⌝ }
+{
+    let held = first_held(b);
+    let start = held.start;
+    let end = held.end;
+    if held.value {
+        return put_value(&b[start..end], numbers, texts, room);
+    }
+    put_tag(&b[start..end], numbers, room)
+}
+
+// As an argument and as a term: 0 and the component.
+pub(crate) fn put_value(
+    value: &[u8],
+    numbers: &mut [u64],
+    texts: &mut [u8],
+    room: Room,
+) -> Room
+    ensures { λ r.
+        ⌜
+        Describes (put 0 (shown (component type.Value) (componentOf (now (value .entry)))))
+        (state room (now (numbers .entry)) (now (texts .entry))) (state r (now (numbers .exit)) (now (texts .exit)))
+        ⌝ }
+{
+    let rest = put_number(0, numbers, room);
+    put_component(value, numbers, texts, rest)
+}
+
+// As an argument and as a term: 1 and the Tag.
+pub(crate) fn put_tag(tag: &[u8], numbers: &mut [u64], room: Room) -> Room
+    ensures { λ r.
+        ⌜
+        ((ts : List ℕ) → Describes (put 1 (number (numberOf (now (tag .entry))))) (state room (now (numbers .entry)) ts) (state r (now (numbers .exit)) ts))
+        ⌝ }
+{
+    let rest = put_number(1, numbers, room);
+    put_number(tlv::number_of(tag), numbers, rest)
+}
+
+// The component in a Value: its type and its text.
+fn put_component(value: &[u8], numbers: &mut [u64], texts: &mut [u8], room: Room) -> Room
+    ensures { λ r.
+        ⌜
+        Describes (shown (component type.Value) (componentOf (now (value .entry))))
+        (state room (now (numbers .entry)) (now (texts .entry))) (state r (now (numbers .exit)) (now (texts .exit)))
+        ⌝ }
+{
+    let held = component_in(value);
+    let start = held.start;
+    let end = held.end;
+    let rest = put_number(held.typ as u64, numbers, room);
+    put_text(&value[start..end], numbers, texts, rest)
+}
+
+fn component_in(value: &[u8]) -> Component
+    ensures { λ r. ⌜ ComponentAt (now (value .entry)) r ⌝ }
+{
+    let none = Component {
+        typ: 0,
+        start: 0,
+        end: 0,
+    };
+    let place = Place { at: 0 };
+    match place.element(value) {
+        Read::Found {
+            typ,
+            start,
+            end,
+            next: _,
+        } => Component { typ, start, end },
+        Read::End => none,
+        Read::Malformed => none,
+    }
+}
+
+// The first Value or Tag of an argument; an argument with neither counts as Tag 0.
+fn first_held(b: &[u8]) -> Held
+    ensures { λ r. ⌜ ArgumentAt (now (b .entry)) r ⌝ }
+{
+    let none = Held {
+        value: false,
+        start: 0,
+        end: 0,
+    };
+    let mut place = Place { at: 0 };
+    loop {
+        match place.element(b) {
+            Read::Found {
+                typ,
+                start,
+                end,
+                next,
+            } => {
+                place = next;
+                if typ == VALUE {
+                    return Held {
+                        value: true,
+                        start,
+                        end,
+                    };
+                }
+                if typ == TAG {
+                    return Held {
+                        value: false,
+                        start,
+                        end,
+                    };
+                }
+            }
+            Read::End => {
+                return none;
+            }
+            Read::Malformed => {
+                return none;
+            }
+        }
+    }
+}
