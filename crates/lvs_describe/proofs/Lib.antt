@@ -1,2 +1,6 @@
 pub mod Rooms
 pub mod Puts
+pub mod Appended
+pub mod Items
+pub mod Containers
+pub mod Loops
