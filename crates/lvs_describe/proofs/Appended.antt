@@ -16,7 +16,7 @@ use Rattle.lvs_describe.specs.Parts.{nothing, joined, joinedAll, shown, 
 pub record Appended {A : Type 0} (f : Format A) : Type 0 where
   pub splits : (a : A) (l : Lists) → f .onto a l ≡ joined (f .onto a nothing) l
 
-joined-assoc : (a b c : Lists) → joined (joined a b) c ≡ joined a (joined b c)
+pub joined-assoc : (a b c : Lists) → joined (joined a b) c ≡ joined a (joined b c)
 joined-assoc a b c =
     let n = append-assoc (a .numbers) (b .numbers) (c .numbers) in
     let t = append-assoc (a .texts) (b .texts) (c .texts) in

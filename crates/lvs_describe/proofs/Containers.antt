@@ -4,6 +4,7 @@ use mathlib.Core.Bool.{Bool, true, false}
 use mathlib.Core.List.{List, [], map}
 use mathlib.Core.Option.{none}
 use Prim.Native.Nat.{ℕ, _≤_, _<_}
+use borrow.Author.Tests.{ne-eqb}
 use lib.Dec.{eqb}
 use lib.ListN.{length}
 use Rattle.tlv.specs.Lists.{first}
@@ -136,3 +137,59 @@ module _ (b : List ℕ) {s s₁ s₂ s₃ : State} where
           (then-put (many-appended (within-appended patternEdge-appended type.PatternEdge)) (row-puts patterns-are b patterns)
           (row-puts signers-are b signers)))))
           .described
+
+-- ---- an element, by its sort
+
+module _ {k : Sort} (t : ℕ) (b : List ℕ) {s s′ : State} where
+  pub node-item : k ≡ sort.Node → Describes (shown node (nodeOf b)) s s′ → Describes (itemOf k t b) s s′
+  unfolding itemOf
+  node-item e d = rw e d
+
+  pub symbol-item : k ≡ sort.Symbol → Describes (shown symbol (symbolOf b)) s s′ → Describes (itemOf k t b) s s′
+  unfolding itemOf
+  symbol-item e d = rw e d
+
+  pub parent-item : {n : ℕ} → k ≡ sort.Parent → n ≡ numberOf b → Describes (number n) s s′ → Describes (itemOf k t b) s s′
+  unfolding itemOf shown
+  parent-item e f d = rw (e, ← f) d
+
+  pub name-item : k ≡ sort.RuleName → Describes (putText b nothing) s s′ → Describes (itemOf k t b) s s′
+  unfolding itemOf shown
+  name-item e d = rw e d
+
+  pub value-edge-item : k ≡ sort.ValueEdge → Describes (shown valueEdge (valueEdgeOf b)) s s′ → Describes (itemOf k t b) s s′
+  unfolding itemOf
+  value-edge-item e d = rw e d
+
+  pub pattern-edge-item : k ≡ sort.PatternEdge → Describes (shown patternEdge (patternEdgeOf b)) s s′ → Describes (itemOf k t b) s s′
+  unfolding itemOf
+  pattern-edge-item e d = rw e d
+
+  pub signer-item : {n : ℕ} → k ≡ sort.Signer → n ≡ numberOf b → Describes (number n) s s′ → Describes (itemOf k t b) s s′
+  unfolding itemOf shown
+  signer-item e f d = rw (e, ← f) d
+
+  pub constraint-item : k ≡ sort.Constraint → Describes (rowOf sort.ConstraintOption b) s s′ → Describes (itemOf k t b) s s′
+  unfolding itemOf shown
+  constraint-item e d = rw e (row-puts options-are b d .described)
+
+  pub option-item : k ≡ sort.ConstraintOption → Describes (rowOf sort.Term b) s s′ → Describes (itemOf k t b) s s′
+  unfolding itemOf
+  option-item e d = rw (e, ← (terms-are b)) d
+
+  pub value-item : k ≡ sort.Term → t ≡ type.Value → Describes (put 0 (shown (component type.Value) (componentOf b))) s s′ → Describes (itemOf k t b) s s′
+  unfolding itemOf shown termOf
+  value-item e f d = rw (e, f) d
+
+  pub tag-item : k ≡ sort.Term → t ≡ type.Tag → Describes (put 1 (number (numberOf b))) s s′ → Describes (itemOf k t b) s s′
+  unfolding itemOf shown termOf
+  tag-item e f d = rw (e, f) d
+
+  pub call-item : k ≡ sort.Term → (t ≡ type.Value → ⊥) → (t ≡ type.Tag → ⊥) → Describes (put 2 (shown call (callOf b))) s s′
+      → Describes (itemOf k t b) s s′
+  unfolding itemOf shown termOf
+  call-item e f g d = rw (e, ne-eqb t type.Value f, ne-eqb t type.Tag g) d
+
+  pub argument-item : k ≡ sort.Argument → Describes (shown argument (argumentOf b)) s s′ → Describes (itemOf k t b) s s′
+  unfolding itemOf
+  argument-item e d = rw e d

@@ -4,3 +4,4 @@ pub mod Appended
 pub mod Items
 pub mod Containers
 pub mod Loops
+pub mod Walked
