@@ -1,11 +1,10 @@
 -- Each format puts its own part in front of what it is given: `f .onto a l` is `f .onto a nothing`, and then l. Assumes nothing.
 use mathlib.Core.Path.{_≡_, refl, sym, ap, _∙_}
 use mathlib.Core.Bool.{Bool}
-use mathlib.Core.List.{List, [], _∷_, _++_, map, append-assoc, append-nil}
+use mathlib.Core.List.{List, [], _∷_, map, append-assoc, append-nil}
 use mathlib.Core.Option.{Option, none, some}
 use Prim.Native.Nat.{ℕ}
 use lib.ListN.{length, length-map}
-use Rattle.tlv.specs.Element.{Element}
 use Rattle.lvs_spec.specs.Types as type
 use Rattle.lvs_spec.specs.Leaves.{identifier, marked}
 use Rattle.lvs_spec.specs.Model.{Argument, Term}
@@ -37,10 +36,10 @@ pub component-appended : (t : ℕ) → Appended (component t)
 component-appended t = record { splits = λ e l. ap (put (e .type)) (text-splits (e .inside) l) }
 
 module _ {A B : Type 0} where
-  pub then-appended : {f : Format A} {g : Format B} → Appended f → Appended g → Appended (f then g)
+  pub then-appended : {f : Format A} {g : Format B} → Appended f → Appended g → Appended (_then_ f g)
   then-appended {f} {g} F G = record { splits = splits }
     where
-      splits : (p : A × B) (l : Lists) → (f then g) .onto p l ≡ joined ((f then g) .onto p nothing) l
+      splits : (p : A × B) (l : Lists) → _then_ f g .onto p l ≡ joined (_then_ f g .onto p nothing) l
       splits p l =
           let a = f .onto (p .0) nothing in
           let b = g .onto (p .1) nothing in

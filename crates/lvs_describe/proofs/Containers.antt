@@ -1,20 +1,18 @@
 -- A container's part of the description, from the parts of what it holds, put one behind the other. Assumes nothing.
-use mathlib.Core.Path.{_≡_, sym, subst, _∙_}
+use mathlib.Core.Path.{_≡_, subst}
 use mathlib.Core.Bool.{Bool, true, false}
-use mathlib.Core.List.{List, [], map}
-use mathlib.Core.Option.{none}
+use mathlib.Core.List.{List}
 use Prim.Native.Nat.{ℕ, _≤_, _<_}
 use borrow.Author.Tests.{ne-eqb}
-use lib.Dec.{eqb}
 use lib.ListN.{length}
 use Rattle.tlv.specs.Lists.{first}
-use Rattle.tlv.specs.Fields.{InsideOf, insides, numberOf, integers, theInteger, theInside}
+use Rattle.tlv.specs.Fields.{InsideOf, numberOf, integers, theInteger}
 use Rattle.tlv.specs.declared.Part.{Part}
 use Rattle.lvs_spec.specs.Types as type
-use Rattle.lvs_spec.specs.Leaves.{identifier, marked}
-use Rattle.lvs_spec.specs.Model.{componentOf, argumentOf, callOf, constraintOf, optionOf, valueEdgeOf, patternEdgeOf, nodeOf, symbolOf, modelOf}
-use Rattle.lvs_description.specs.Format.{Lists, put, putText, Format, integer, text, component, _then_, maybe, many, within}
-use Rattle.lvs_description.specs.Description.{argument, call, term, option, constraint, valueEdge, patternEdge, node, symbol, model, listsOf}
+use Rattle.lvs_spec.specs.Leaves.{marked}
+use Rattle.lvs_spec.specs.Model.{componentOf, argumentOf, callOf, valueEdgeOf, patternEdgeOf, nodeOf, symbolOf, modelOf}
+use Rattle.lvs_description.specs.Format.{Lists, put, putText, Format, integer, text, component, _then_, maybe, many}
+use Rattle.lvs_description.specs.Description.{argument, call, valueEdge, patternEdge, node, symbol, listsOf}
 use Rattle.lvs_describe.specs.Parts.{nothing, number, shown}
 use Rattle.lvs_describe.specs.Lent.{State, Describes}
 use Rattle.lvs_describe.specs.Found.{part, ComponentAt, heldBy, ArgumentAt}
@@ -26,8 +24,8 @@ use Rattle.lvs_describe.specs.declared.Sort.the-variants as sort
 use Rattle.lvs_describe.proofs.Puts.{describes-then}
 use Rattle.lvs_describe.proofs.Appended.{Appended, integer-appended, text-appended, maybe-appended, many-appended, within-appended}
 use Rattle.lvs_describe.proofs.Appended.{valueEdge-appended, patternEdge-appended, node-appended}
-use Rattle.lvs_describe.proofs.Items.{Row, nodes-are, symbols-are, names-are, values-are, patterns-are, signers-are, constraints-are, options-are, terms-are}
-use Rattle.lvs_describe.proofs.Items.{arguments-are, no-parent, a-parent}
+use Rattle.lvs_describe.proofs.Items.{Row, nodes-are, symbols-are, names-are, values-are, patterns-are, signers-are, constraints-are, options-are}
+use Rattle.lvs_describe.proofs.Items.{terms-are, arguments-are, no-parent, a-parent}
 
 -- ---- one format's part and then another's
 
@@ -36,7 +34,7 @@ record Puts {A : Type 0} (f : Format A) (a : A) (s s′ : State) : Type 0 where
   described : Describes (shown f a) s s′
 
 then-put : {A B : Type 0} {f : Format A} {g : Format B} {a : A} {b : B} {s s′ s″ : State} → Appended f → Puts f a s s′ → Puts g b s′ s″
-    → Puts (f then g) (a, b) s s″
+    → Puts (_then_ f g) (a, b) s s″
 unfolding shown
 then-put {g = g} {a = a} {b = b} F p q = record { described = rw (F .splits a (g .onto b nothing)) (describes-then (p .described) (q .described)) }
 

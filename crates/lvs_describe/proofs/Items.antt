@@ -1,8 +1,8 @@
 -- The elements of one sort in a container, as parts of a description. Assumes nothing.
 use mathlib.Core.Path.{_≡_, refl, sym, ap, _∙_}
-use mathlib.Core.Bool.{Bool, true, false, _||_}
-use mathlib.Core.List.{List, [], _∷_, _++_, map, map-append, map-map, map-id}
-use mathlib.Core.Option.{Option, none, some}
+use mathlib.Core.Bool.{Bool, true, false}
+use mathlib.Core.List.{List, [], _∷_, map, map-append, map-map, map-id}
+use mathlib.Core.Option.{none, some}
 use Prim.Native.Nat.{ℕ, _≤_, _<_}
 use native.Mathlib.Omega.{arith}
 use borrow.Author.Tests.{eqb-true, eqb-false, eq-eqb, ne-eqb}
@@ -12,8 +12,8 @@ use Rattle.tlv.specs.Element.{Element, Cuts, done, broken, next, cuts}
 use Rattle.tlv.specs.Lists.{when, first, firstOr}
 use Rattle.tlv.specs.Fields.{eachCut, insideOf, insides, numberOf, integers, theInside, theInteger}
 use Rattle.lvs_spec.specs.Types as type
-use Rattle.lvs_spec.specs.Leaves.{identifier, marked}
-use Rattle.lvs_spec.specs.Model.{Term, componentOf, argumentOf, callOf, termFrom, optionOf, constraintOf, valueEdgeOf, patternEdgeOf, nodeOf, symbolOf}
+use Rattle.lvs_spec.specs.Leaves.{marked}
+use Rattle.lvs_spec.specs.Model.{Term, argumentOf, termFrom, optionOf, constraintOf, valueEdgeOf, patternEdgeOf, nodeOf, symbolOf}
 use Rattle.lvs_description.specs.Format.{Lists, Format, integer, text, many, within}
 use Rattle.lvs_description.specs.Description.{argument, term, option, constraint, valueEdge, patternEdge, node, symbol}
 use Rattle.lvs_describe.specs.Parts.{shown, row}
@@ -70,7 +70,7 @@ module _ (b : List ℕ) where
       go true e q f r g = rw (eqb-true t type.Value e)
       go false e true f r g = rw (eqb-true t type.Tag f)
       go false e false f true g = rw (eqb-true t type.UserFnCall g)
-      go false e false f false g = 
+      go false e false f false g =
           rw (e, f, g, eqb-sym type.Value t, eqb-sym type.Tag t, eqb-sym type.UserFnCall t, e, f, g)
 
 pub terms-are : (b : List ℕ) → rowOf sort.Term b ≡ shown option (optionOf b)
@@ -107,7 +107,11 @@ values-are = record { is = row-is sort.ValueEdge type.ValueEdge _ valueEdgeOf (�
 
 pub patterns-are : Row sort.PatternEdge (within type.PatternEdge patternEdge) (λ b. map patternEdgeOf (insides type.PatternEdge b))
 unfolding isOf itemOf shown
-patterns-are = record { is = row-is sort.PatternEdge type.PatternEdge _ patternEdgeOf (λ u. refl) (λ u b. refl) (within-appended patternEdge-appended type.PatternEdge) }
+patterns-are =
+    record {
+      is = row-is sort.PatternEdge type.PatternEdge _ patternEdgeOf (λ u. refl) (λ u b. refl)
+          (within-appended patternEdge-appended type.PatternEdge);
+    }
 
 pub signers-are : Row sort.Signer (integer type.SignConstraint) (integers type.SignConstraint)
 unfolding isOf itemOf integers
@@ -115,11 +119,19 @@ signers-are = record { is = row-is sort.Signer type.SignConstraint _ numberOf (�
 
 pub constraints-are : Row sort.Constraint (within type.Constraint constraint) (λ b. map constraintOf (insides type.Constraint b))
 unfolding isOf itemOf shown
-constraints-are = record { is = row-is sort.Constraint type.Constraint _ constraintOf (λ u. refl) (λ u b. refl) (within-appended constraint-appended type.Constraint) }
+constraints-are =
+    record {
+      is = row-is sort.Constraint type.Constraint _ constraintOf (λ u. refl) (λ u b. refl)
+          (within-appended constraint-appended type.Constraint);
+    }
 
 pub options-are : Row sort.ConstraintOption (within type.ConstraintOption option) constraintOf
 unfolding isOf itemOf shown constraintOf
-options-are = record { is = row-is sort.ConstraintOption type.ConstraintOption _ optionOf (λ u. refl) (λ u b. refl) (within-appended option-appended type.ConstraintOption) }
+options-are =
+    record {
+      is = row-is sort.ConstraintOption type.ConstraintOption _ optionOf (λ u. refl) (λ u b. refl)
+          (within-appended option-appended type.ConstraintOption);
+    }
 
 pub arguments-are : Row sort.Argument (within type.UserFnArg argument) (λ b. map argumentOf (insides type.UserFnArg b))
 unfolding isOf itemOf shown

@@ -5,3 +5,4 @@ pub mod Items
 pub mod Containers
 pub mod Loops
 pub mod Walked
+pub mod Whole

@@ -1,12 +1,11 @@
 -- What the readers find, and one turn of each loop over a container's elements, by the law of `tlv`'s Gathered. Assumes nothing.
-use mathlib.Core.Path.{_≡_, refl, sym, ap, _∙_}
+use mathlib.Core.Path.{_≡_, sym, ap, _∙_}
 use mathlib.Core.Bool.{Bool, true, false}
-use mathlib.Core.List.{List, [], _∷_, _++_}
-use Prim.Native.Nat.{ℕ, _+_, _-_, _≤_, _<_}
+use mathlib.Core.List.{List, [], _∷_}
+use Prim.Native.Nat.{ℕ, _-_, _≤_, _<_}
 use native.Mathlib.Omega.{arith}
 use borrow.Author.Tests.{ne-eqb}
-use lib.Dec.{eqb}
-use lib.ListN.{length, take, drop}
+use lib.ListN.{length, drop}
 use Rattle.tlv.specs.Element.{Element, end, malformed, element}
 use Rattle.tlv.specs.Lists.{when, firstOr}
 use Rattle.tlv.specs.Fields.{numberOf}
@@ -16,7 +15,6 @@ use Rattle.tlv.proofs.Cuts.{Step}
 use Rattle.tlv.proofs.Gathered.{Stop, over, each-one, each-none, each-stop, Gathered, passed, listed, rest-is, counted, one-left, each-most}
 use Rattle.lvs_spec.specs.Types as type
 use Rattle.lvs_spec.specs.Model.{Argument, componentOf, componentFrom, argumentFrom, argumentOf}
-use Rattle.lvs_description.specs.Format.{Lists}
 use Rattle.lvs_describe.specs.Found.{part, ComponentAt, heldBy, ArgumentAt}
 use Rattle.lvs_describe.specs.Sorts.{isOf, itemOf, itemFrom, itemsOf}
 use Rattle.lvs_describe.specs.declared.Sort.{Sort}

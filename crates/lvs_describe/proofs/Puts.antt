@@ -1,17 +1,17 @@
 -- Parts that are put one behind the other. Assumes nothing.
 use mathlib.Core.Path.{_≡_, refl, sym, ap, subst, _∙_}
 use mathlib.Core.Bool.{Bool, true, false}
-use mathlib.Core.List.{List, [], _∷_, _++_, append-assoc, append-nil}
-use Prim.Native.Nat.{ℕ, suc, _+_, _-_, _≤_, _<_}
+use mathlib.Core.List.{List, [], _++_, append-assoc, append-nil}
+use Prim.Native.Nat.{ℕ, _+_, _-_, _≤_, _<_}
 use native.Mathlib.Numerals.{add-one}
 use native.Mathlib.Omega.{arith}
-use lib.ListN.{length, take, drop, set, getD, length-append, length-set}
+use lib.ListN.{length, take, set, getD, length-append, length-set}
 use lib.Seq.{take-suc-set, drop-set-lt, drop-drop, take-all, paste, paste-zero, paste-suc, take-paste, drop-paste}
 use Rattle.lvs_description.specs.Format.{Lists, putText}
 use Rattle.lvs_describe.specs.Parts.{nothing, joined, number, bytes}
 use Rattle.lvs_describe.specs.Lent.{Put, Lent, State, state, Describes, roomAfter, noRoom}
 use Rattle.lvs_describe.specs.declared.Room.{Room}
-use Rattle.lvs_describe.proofs.Rooms.{Fits, Left, kept, fit, spent, left-is, taken, Fitted, fitted, nothing-left, room-then, never}
+use Rattle.lvs_describe.proofs.Rooms.{Fits, kept, fit, spent, left-is, Fitted, fitted, nothing-left, room-then, never}
 
 -- ---- one list
 
@@ -161,8 +161,7 @@ module _ {s : List ℕ} {at : ℕ} {before : List ℕ} {i : ℕ} {now : List ℕ
   pub all-copied : length s ≤ i → i ≤ length s → (length now ≡ length before) × Put at s before now
   all-copied h g =
       let e : i ≡ length s = omega arith in
-      let all : take i s ≡ s = take-all i s h in
-      (
+      let all : take i s ≡ s = take-all i s h in (
         c .kept,
         record {
           front = rw (c .is, ← e, take-paste before at s i (omega arith) g, all);

@@ -12,7 +12,7 @@ ghost use mathlib.Core.Path.{_≡_};
 ghost use Rattle.lvs_spec.specs.Model.{modelOf};
 ghost use Rattle.lvs_description.specs.Description.{listsOf};
 ghost use Rattle.lvs_describe.specs.Lent.{state, Describes};
-ghost use Rattle.lvs_describe.specs.Answers.{Outcome, described};
+ghost use Rattle.lvs_describe.specs.Answers.{described};
 
 // How many numbers and how many bytes of texts may still be put. Where something did not fit, `ok` is false, and nothing more is put.
 struct Room {
@@ -64,10 +64,12 @@ pub fn describe(model: &[u8], numbers: &mut [u64], texts: &mut [u8]) -> Describe
         described (modelOf (now (model .entry))) (now (numbers .entry)) (now (texts .entry))
         ⌝ }
 {
+    let n = numbers.len();
+    let t = texts.len();
     let all = Room {
         ok: true,
-        numbers: numbers.len(),
-        texts: texts.len(),
+        numbers: n,
+        texts: t,
     };
     let rest = put_model(model, &mut [0u64; 0], &mut [0u8; 0], all);
     if !rest.ok {
@@ -75,8 +77,8 @@ pub fn describe(model: &[u8], numbers: &mut [u64], texts: &mut [u8]) -> Describe
     }
     put_model(model, numbers, texts, all);
     Described::Of {
-        numbers: numbers.len() - rest.numbers,
-        texts: texts.len() - rest.texts,
+        numbers: n - rest.numbers,
+        texts: t - rest.texts,
     }
 }
 

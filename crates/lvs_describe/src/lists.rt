@@ -40,7 +40,8 @@ pub(crate) fn put_number(n: u64, numbers: &mut [u64], room: Room) -> Room
 pub(crate) fn put_text(s: &[u8], numbers: &mut [u64], texts: &mut [u8], room: Room) -> Room
     ensures { λ r.
         ⌜
-        Describes (putText (now (s .entry)) nothing) (state room (now (numbers .entry)) (now (texts .entry))) (state r (now (numbers .exit)) (now (texts .exit)))
+        Describes (putText (now (s .entry)) nothing)
+        (state room (now (numbers .entry)) (now (texts .entry))) (state r (now (numbers .exit)) (now (texts .exit)))
         ⌝ }
 {
     let rest = put_number(s.len() as u64, numbers, room);

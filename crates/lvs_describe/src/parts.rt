@@ -1,5 +1,4 @@
 // The parts of a description that hold no row of others.
-ghost use mathlib.Core.Path.{_≡_};
 ghost use mathlib.Core.List.{List};
 ghost use Prim.Native.Nat.{ℕ};
 ghost use Rattle.tlv.specs.Fields.{numberOf, integers};
@@ -42,12 +41,7 @@ pub(crate) fn put_parent(node: &[u8], numbers: &mut [u64], room: Room) -> Room
     put_number(tlv::number_in(node, PARENT), numbers, rest)
 }
 
-pub(crate) fn put_value_edge(
-    edge: &[u8],
-    numbers: &mut [u64],
-    texts: &mut [u8],
-    room: Room,
-) -> Room
+pub(crate) fn put_value_edge(edge: &[u8], numbers: &mut [u64], texts: &mut [u8], room: Room) -> Room
     ensures { λ r.
         ⌜
         Describes (shown valueEdge (valueEdgeOf (now (edge .entry))))
@@ -61,12 +55,7 @@ pub(crate) fn put_value_edge(
     put_component(&edge[start..end], numbers, texts, rest)
 }
 
-pub(crate) fn put_symbol(
-    b: &[u8],
-    numbers: &mut [u64],
-    texts: &mut [u8],
-    room: Room,
-) -> Room
+pub(crate) fn put_symbol(b: &[u8], numbers: &mut [u64], texts: &mut [u8], room: Room) -> Room
     ensures { λ r.
         ⌜
         Describes (shown symbol (symbolOf (now (b .entry))))
@@ -80,12 +69,7 @@ pub(crate) fn put_symbol(
     put_text(&b[start..end], numbers, texts, rest)
 }
 
-pub(crate) fn put_argument(
-    b: &[u8],
-    numbers: &mut [u64],
-    texts: &mut [u8],
-    room: Room,
-) -> Room
+pub(crate) fn put_argument(b: &[u8], numbers: &mut [u64], texts: &mut [u8], room: Room) -> Room
     ensures { λ r.
         ⌜
         Describes (shown argument (argumentOf (now (b .entry))))
@@ -102,12 +86,7 @@ pub(crate) fn put_argument(
 }
 
 // As an argument and as a term: 0 and the component.
-pub(crate) fn put_value(
-    value: &[u8],
-    numbers: &mut [u64],
-    texts: &mut [u8],
-    room: Room,
-) -> Room
+pub(crate) fn put_value(value: &[u8], numbers: &mut [u64], texts: &mut [u8], room: Room) -> Room
     ensures { λ r.
         ⌜
         Describes (put 0 (shown (component type.Value) (componentOf (now (value .entry)))))

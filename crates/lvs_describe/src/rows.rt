@@ -1,6 +1,5 @@
 // Rows of elements of one sort, and the containers that hold them.
 ghost use mathlib.Core.Path.{_≡_};
-ghost use Prim.Native.Nat.{ℕ};
 ghost use lib.ListN.{length};
 ghost use Rattle.lvs_spec.specs.Model.{callOf, patternEdgeOf, nodeOf};
 ghost use Rattle.lvs_description.specs.Format.{put};

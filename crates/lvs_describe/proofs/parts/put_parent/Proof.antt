@@ -16,7 +16,8 @@ returns-2 c ts =
     let integer = parent .before .before in
     let flag = integer .before .before .before in
     let some = flag .before .before in
-    parent-put _ (some .before .count-items .ensures) (some .if1 .left) (flag .put-number2 .ensures ts) (integer .number-in .ensures) (parent .put-number3 .ensures ts)
+    parent-put _ (some .before .count-items .ensures) (some .if1 .left) (flag .put-number2 .ensures ts) (integer .number-in .ensures)
+    (parent .put-number3 .ensures ts)
 
 pub put-parent-spec : {M : Type 1} → statement M
 put-parent-spec =

@@ -1,6 +1,5 @@
 -- `lvs_describe::parts::put_symbol` meets its contract. Assumes nothing.
 use borrow.Author.Needs.{needs}
-use native.Mathlib.Omega.{arith}
 use Rattle.lvs_describe.proofs.Containers.{symbol-put}
 use Rattle.lvs_describe.proofs.parts.put_symbol.Statement.{statement}
 use Rattle.lvs_describe.proofs.parts.put_symbol.Tie as tie

@@ -1,6 +1,5 @@
 -- `lvs_describe::parts::put_value_edge` meets its contract. Assumes nothing.
 use borrow.Author.Needs.{needs}
-use native.Mathlib.Omega.{arith}
 use Rattle.lvs_describe.proofs.Containers.{value-edge-put}
 use Rattle.lvs_describe.proofs.parts.put_value_edge.Statement.{statement}
 use Rattle.lvs_describe.proofs.parts.put_value_edge.Tie as tie

@@ -112,7 +112,11 @@ abbrev put-call-need : (put-call-lts.Claims → In 3 put-call-kinds.ps → Out 3
 put-call-need N t = N (put-call-calls t) (put-call-at t) put-call.Post
 
 put-call-put-row-requires : (t : ℕ) → put-call-need put-call-lts.Need-put-row-requires t
-put-call-put-row-requires t c κs = (omega (arith, c .before .before .before .before .before .before .before .before .before .before .before .before .before .before .before .before .before .before .pre .0), tt)
+put-call-put-row-requires t c κs =
+    let function = c .before .before .before .before .before .before in
+    let inside = function .before .before .before .before in
+    let start = inside .before .before .before .before .before in
+    (omega (arith, start .before .before .before .pre .0), tt)
 
 put-call-returns : (t : ℕ) → put-call-need put-call-lts.Need-returns t
 put-call-returns t c =
@@ -256,16 +260,34 @@ abbrev put-node-need : (put-node-lts.Claims → In 3 put-node-kinds.ps → Out 3
 put-node-need N t = N (put-node-calls t) (put-node-at t) put-node.Post
 
 put-node-put-row-requires : (t : ℕ) → put-node-need put-node-lts.Need-put-row-requires t
-put-node-put-row-requires t c κs = (omega (arith, c .before .before .before .before .before .before .before .before .before .before .before .before .before .before .pre .0), tt)
+put-node-put-row-requires t c κs =
+    let parent = c .before .before .before .before in
+    let integer = parent .before .before .before .before .before .before in
+    (omega (arith, integer .before .before .before .before .pre .0), tt)
 
 put-node-put-row-requires-2 : (t : ℕ) → put-node-need put-node-lts.Need-put-row-requires-2 t
-put-node-put-row-requires-2 t c κs = (omega (arith, c .before .before .before .before .before .before .before .before .before .before .before .before .before .before .before .before .before .before .before .before .before .pre .0), tt)
+put-node-put-row-requires-2 t c κs =
+    let names = c .before .before .before .before .before .before in
+    let parent = names .before .before .before .before .before in
+    let integer = parent .before .before .before .before .before .before in
+    (omega (arith, integer .before .before .before .before .pre .0), tt)
 
 put-node-put-row-requires-3 : (t : ℕ) → put-node-need put-node-lts.Need-put-row-requires-3 t
-put-node-put-row-requires-3 t c κs = (omega (arith, c .before .before .before .before .before .before .before .before .before .before .before .before .before .before .before .before .before .before .before .before .before .before .before .before .before .before .before .before .pre .0), tt)
+put-node-put-row-requires-3 t c κs =
+    let values = c .before .before .before .before .before .before in
+    let names = values .before .before .before .before .before .before .before in
+    let parent = names .before .before .before .before .before in
+    let integer = parent .before .before .before .before .before .before in
+    (omega (arith, integer .before .before .before .before .pre .0), tt)
 
 put-node-put-row-requires-4 : (t : ℕ) → put-node-need put-node-lts.Need-put-row-requires-4 t
-put-node-put-row-requires-4 t c κs = (omega (arith, c .before .before .before .before .before .before .before .before .before .before .before .before .before .before .before .before .before .before .before .before .before .before .before .before .before .before .before .before .before .before .before .before .before .before .before .pre .0), tt)
+put-node-put-row-requires-4 t c κs =
+    let patterns = c .before .before .before .before .before .before in
+    let values = patterns .before .before .before .before .before .before .before in
+    let names = values .before .before .before .before .before .before .before in
+    let parent = names .before .before .before .before .before in
+    let integer = parent .before .before .before .before .before .before in
+    (omega (arith, integer .before .before .before .before .pre .0), tt)
 
 put-node-returns : (t : ℕ) → put-node-need put-node-lts.Need-returns t
 put-node-returns t c =
@@ -276,7 +298,8 @@ put-node-returns t c =
     let parent = names .before .before .before .before .before in
     let id = parent .before .before .before .before in
     let integer = id .before .before in
-    node-put _ (integer .number-in .ensures) (id .put-number .ensures _) (parent .put-parent .ensures _) (names .put-row .ensures) (values .put-row2 .ensures)
+    node-put _ (integer .number-in .ensures) (id .put-number .ensures _) (parent .put-parent .ensures _) (names .put-row .ensures)
+    (values .put-row2 .ensures)
     (patterns .put-row3 .ensures)
     (signers .put-row4 .ensures)
 
@@ -302,7 +325,10 @@ abbrev put-pattern-edge-need : (put-pattern-edge-lts.Claims → In 3 put-pattern
 put-pattern-edge-need N t = N (put-pattern-edge-calls t) (put-pattern-edge-at t) put-pattern-edge.Post
 
 put-pattern-edge-put-row-requires : (t : ℕ) → put-pattern-edge-need put-pattern-edge-lts.Need-put-row-requires t
-put-pattern-edge-put-row-requires t c κs = (omega (arith, c .before .before .before .before .before .before .before .before .before .before .before .before .before .before .before .pre .0), tt)
+put-pattern-edge-put-row-requires t c κs =
+    let integer = c .before .before .before .before .before .before in
+    let to = integer .before .before .before .before .before in
+    (omega (arith, to .before .before .before .before .pre .0), tt)
 
 put-pattern-edge-returns : (t : ℕ) → put-pattern-edge-need put-pattern-edge-lts.Need-returns t
 put-pattern-edge-returns t c =
@@ -311,7 +337,8 @@ put-pattern-edge-returns t c =
     let integer = tag .before .before in
     let destination = integer .before .before .before in
     let to = destination .before .before in
-    pattern-edge-put _ (to .number-in .ensures) (destination .put-number .ensures _) (integer .number-in2 .ensures) (tag .put-number2 .ensures _)
+    pattern-edge-put _ (to .number-in .ensures) (destination .put-number .ensures _) (integer .number-in2 .ensures)
+    (tag .put-number2 .ensures _)
     (constraints .put-row .ensures)
 
 -- ---- put_row
@@ -361,7 +388,9 @@ put-row-part-put-item-end t c = omega (arith, step t (c .before .before .before)
 put-row-put-item-requires : (t : ℕ) → put-row-need put-row-lts.Need-put-item-requires t
 put-row-put-item-requires t c κs =
     let turn = c .before .before .before .before .before .before in
-    (simp (length-take, length-drop) (omega (arith, turn .before .before .before .before .before .before .before .before .before .before .before .before .pre .0, step t turn)), tt)
+    let loop = turn .before .before .before in
+    let count = loop .before .before .before .before .before in
+    (simp (length-take, length-drop) (omega (arith, count .before .before .before .before .pre .0, step t turn)), tt)
 
 put-row-loop-less : (t : ℕ) → put-row-need put-row-lts.Need-loop-less t
 put-row-loop-less t c = omega (arith, step t (c .before .before .before .before .before .before .before .before .before .before .before))
@@ -385,7 +414,8 @@ put-row-returns : (t : ℕ) → put-row-need put-row-lts.Need-returns t
 put-row-returns t c =
     let loop = c .before .before .before in
     let number = loop .before .before .before in
-    walk-end (loop .loop .inv) (number .before .before .count-items .ensures) (number .put-number .ensures _) (items-stop _ (stop-end _ _ (c .before .before .element .ensures) (c .enum-told .given .1)))
+    walk-end (loop .loop .inv) (number .before .before .count-items .ensures) (number .put-number .ensures _)
+    (items-stop _ (stop-end _ _ (c .before .before .element .ensures) (c .enum-told .given .1)))
 
 put-row-returns-2 : (t : ℕ) → put-row-need put-row-lts.Need-returns-2 t
 put-row-returns-2 t c =

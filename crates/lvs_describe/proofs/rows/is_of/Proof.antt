@@ -1,6 +1,5 @@
 -- `lvs_describe::rows::is_of` meets its contract. Assumes nothing.
 use mathlib.Core.Path.{_≡_, ap, sym, _∙_}
-use mathlib.Core.Bool.{Bool}
 use Prim.Native.Nat.{ℕ}
 use borrow.Author.Needs.{needs}
 use Rattle.lvs_describe.specs.Sorts.{isOf}
