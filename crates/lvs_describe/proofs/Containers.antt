@@ -1,12 +1,12 @@
 -- A container's part of the description, from the parts of what it holds, put one behind the other. Assumes nothing.
 use mathlib.Core.Path.{_≡_, subst}
-use mathlib.Core.Bool.{Bool, true, false}
+use mathlib.Core.Bool.{true, false}
 use mathlib.Core.List.{List}
 use Prim.Native.Nat.{ℕ, _≤_, _<_}
 use borrow.Author.Tests.{ne-eqb}
 use lib.ListN.{length}
 use Rattle.tlv.specs.Lists.{first}
-use Rattle.tlv.specs.Fields.{InsideOf, numberOf, integers, theInteger}
+use Rattle.tlv.specs.Fields.{InsideOf, numberOf, integers, theInteger, theInside}
 use Rattle.tlv.specs.declared.Part.{Part}
 use Rattle.lvs_spec.specs.Types as type
 use Rattle.lvs_spec.specs.Leaves.{marked}
@@ -16,7 +16,7 @@ use Rattle.lvs_description.specs.Description.{argument, call, valueEdge, patter
 use Rattle.lvs_describe.specs.Parts.{nothing, number, shown}
 use Rattle.lvs_describe.specs.Lent.{State, Describes}
 use Rattle.lvs_describe.specs.Found.{part, ComponentAt, heldBy, ArgumentAt}
-use Rattle.lvs_describe.specs.Sorts.{termOf, itemOf, itemsOf, rowOf}
+use Rattle.lvs_describe.specs.Sorts.{own, termOf, itemOf, itemsOf, rowOf}
 use Rattle.lvs_describe.specs.declared.Component.{Component}
 use Rattle.lvs_describe.specs.declared.Held.{Held}
 use Rattle.lvs_describe.specs.declared.Sort.{Sort}
@@ -39,17 +39,15 @@ unfolding shown
 then-put {g = g} {a = a} {b = b} F p q = record { described = rw (F .splits a (g .onto b nothing)) (describes-then (p .described) (q .described)) }
 
 module _ {s s′ : State} where
-  number-puts : (t : ℕ) {n m : ℕ} → n ≡ m → Describes (number n) s s′ → Puts (integer t) m s s′
-  unfolding shown
-  number-puts t e d = record { described = rw (← e) d }
-
-  text-puts : (t : ℕ) (ok : List ℕ → Bool) {x y : List ℕ} → x ≡ y → Describes (putText x nothing) s s′ → Puts (text t ok) y s s′
-  unfolding shown
-  text-puts t ok e d = record { described = rw (← e) d }
-
   row-puts : {A : Type 0} {k : Sort} {f : Format A} {of : List ℕ → List A} → Row k f of → (b : List ℕ) → Describes (rowOf k b) s s′
       → Puts (many f) (of b) s s′
   row-puts R b d = record { described = subst (λ (l : Lists). Describes l s s′) (R .is b) d }
+
+-- behind a number
+numbered-then : {A B : Type 0} (f : Format A) {g : Format B} (a : A) {b : B} (n : ℕ) {s s′ s″ : State} → Appended f → Describes (put n (shown f a)) s s′
+    → Puts g b s′ s″ → Describes (put n (shown (_then_ f g) (a, b))) s s″
+unfolding shown
+numbered-then f {g} a {b} n F p q = rw (F .splits a (g .onto b nothing)) (describes-then p (q .described))
 
 -- ---- parts that hold no row
 
@@ -59,82 +57,73 @@ module _ (b : List ℕ) {s s₁ : State} where
   unfolding shown heldBy
   value-argument-put at e d = rw (at .is, e) d
 
-  pub tag-argument-put : {p : Held} → ArgumentAt b p → p .value ≡ false → Describes (put 1 (number (numberOf (part b (p .start) (p .end))))) s s₁
-      → Describes (shown argument (argumentOf b)) s s₁
+  pub tag-argument-put : {p : Held} {n : ℕ} → ArgumentAt b p → p .value ≡ false → n ≡ numberOf (part b (p .start) (p .end))
+      → Describes (put 1 (number n)) s s₁ → Describes (shown argument (argumentOf b)) s s₁
   unfolding shown heldBy
-  tag-argument-put at e d = rw (at .is, e) d
+  tag-argument-put at e f d = rw (at .is, e, ← f) d
 
-  pub no-parent-put : {n : ℕ} → n ≡ length (itemsOf sort.Parent b) → n < 1 → Describes (number 0) s s₁
-      → Describes (shown (maybe (integer type.Parent)) (first (integers type.Parent b))) s s₁
-  unfolding shown
-  no-parent-put e h d = rw (no-parent b e h) d
+  pub no-parent-put : {i n : ℕ} → i ≡ theInteger type.NodeId b → n ≡ length (itemsOf sort.Parent b) → n < 1 → Describes (put i (number 0)) s s₁
+      → Describes (own b) s s₁
+  unfolding own shown
+  no-parent-put g e h d = rw (no-parent b e h, ← g) d
+
+  pub value-edge-put : {n : ℕ} {p : Part} → n ≡ theInteger type.NodeId b → InsideOf b type.Value p
+      → Describes (put n (shown (component type.Value) (componentOf (part b (p .start) (p .end))))) s s₁ → Describes (shown valueEdge (valueEdgeOf b)) s s₁
+  unfolding shown valueEdgeOf
+  value-edge-put e at d = rw (← e, ← (at .is)) d
+
+  pub symbol-put : {n : ℕ} {p : Part} → n ≡ theInteger type.Tag b → InsideOf b type.Identifier p
+      → Describes (put n (putText (part b (p .start) (p .end)) nothing)) s s₁ → Describes (shown symbol (symbolOf b)) s s₁
+  unfolding shown symbolOf
+  symbol-put e at d = rw (← e, ← (at .is)) d
 
 module _ (b : List ℕ) {s s₁ s₂ : State} where
-  pub parent-put : {n p : ℕ} → n ≡ length (itemsOf sort.Parent b) → 1 ≤ n → Describes (number 1) s s₁ → p ≡ theInteger type.Parent b
-      → Describes (number p) s₁ s₂ → Describes (shown (maybe (integer type.Parent)) (first (integers type.Parent b))) s s₂
-  unfolding shown
-  parent-put e h d f g = rw (a-parent b e h, ← f) (describes-then d g)
+  pub parent-put : {i n p : ℕ} → i ≡ theInteger type.NodeId b → n ≡ length (itemsOf sort.Parent b) → 1 ≤ n → Describes (number i) s s₁
+      → p ≡ theInteger type.Parent b → Describes (put 1 (number p)) s₁ s₂ → Describes (own b) s s₂
+  unfolding own shown
+  parent-put k e h d f g = rw (a-parent b e h, ← f, ← k) (describes-then d g)
 
-  pub tag-put : {n : ℕ} → n ≡ numberOf b → Describes (number 1) s s₁ → Describes (number n) s₁ s₂ → Describes (put 1 (number (numberOf b))) s s₂
-  tag-put e p q = rw (← e) (describes-then p q)
-
-  pub component-put : {p : Component} → ComponentAt b p → Describes (number (p .typ)) s s₁ → Describes (putText (part b (p .start) (p .end)) nothing) s₁ s₂
-      → Describes (shown (component type.Value) (componentOf b)) s s₂
+  pub component-put : {n : ℕ} {p : Component} → ComponentAt b p → Describes (number n) s s₁
+      → Describes (put (p .typ) (putText (part b (p .start) (p .end)) nothing)) s₁ s₂ → Describes (put n (shown (component type.Value) (componentOf b))) s s₂
   unfolding shown
   component-put at p q = rw (at .is) (describes-then p q)
 
-  pub value-edge-put : {n : ℕ} {p : Part} → n ≡ theInteger type.NodeId b → Describes (number n) s s₁ → InsideOf b type.Value p
-      → Describes (shown (component type.Value) (componentOf (part b (p .start) (p .end)))) s₁ s₂ → Describes (shown valueEdge (valueEdgeOf b)) s s₂
-  unfolding shown valueEdgeOf
-  value-edge-put e p at q = rw (← e, ← (at .is)) (describes-then p q)
-
-  pub symbol-put : {n : ℕ} {p : Part} → n ≡ theInteger type.Tag b → Describes (number n) s s₁ → InsideOf b type.Identifier p
-      → Describes (putText (part b (p .start) (p .end)) nothing) s₁ s₂ → Describes (shown symbol (symbolOf b)) s s₂
-  unfolding shown symbolOf
-  symbol-put e p at q = rw (← e, ← (at .is)) (describes-then p q)
-
 -- ---- containers
 
-module _ (b : List ℕ) {s s₁ s₂ s₃ : State} where
-  pub call-put : {p : Part} → Describes (number 2) s s₁ → InsideOf b type.FnId p → Describes (putText (part b (p .start) (p .end)) nothing) s₁ s₂
-      → Describes (rowOf sort.Argument b) s₂ s₃ → Describes (put 2 (shown call (callOf b))) s s₃
+module _ (b : List ℕ) {s s₁ s₂ : State} where
+  pub call-put : {p : Part} → InsideOf b type.FnId p → Describes (put 2 (putText (part b (p .start) (p .end)) nothing)) s s₁
+      → Describes (rowOf sort.Argument b) s₁ s₂ → Describes (put 2 (shown call (callOf b))) s s₂
   unfolding shown callOf
-  call-put d at f g =
-      describes-then d
-      (then-put (text-appended type.FnId (marked 36)) (text-puts type.FnId (marked 36) (at .is) f) (row-puts arguments-are b g) .described)
+  call-put at d g =
+      numbered-then (text type.FnId (marked 36)) (theInside type.FnId b) 2 (text-appended type.FnId (marked 36)) (rw (← (at .is)) d)
+      (row-puts arguments-are b g)
 
-  pub pattern-edge-put : {n t : ℕ} → n ≡ theInteger type.NodeId b → Describes (number n) s s₁ → t ≡ theInteger type.Tag b → Describes (number t) s₁ s₂
-      → Describes (rowOf sort.Constraint b) s₂ s₃ → Describes (shown patternEdge (patternEdgeOf b)) s s₃
+  pub pattern-edge-put : {n t : ℕ} → n ≡ theInteger type.NodeId b → t ≡ theInteger type.Tag b → Describes (put n (number t)) s s₁
+      → Describes (rowOf sort.Constraint b) s₁ s₂ → Describes (shown patternEdge (patternEdgeOf b)) s s₂
   unfolding shown patternEdgeOf
-  pattern-edge-put e d f g h =
-      then-put (integer-appended type.NodeId) (number-puts type.NodeId e d)
-      (then-put (integer-appended type.Tag) (number-puts type.Tag f g) (row-puts constraints-are b h))
-      .described
+  pattern-edge-put e f d g = rw (← e, ← f) (describes-then d (row-puts constraints-are b g .described))
 
-  module _ {s₄ : State} where
-    pub model-put : {n c : ℕ} → n ≡ theInteger type.NodeId b → Describes (number n) s s₁ → c ≡ theInteger type.NamedPatternCnt b → Describes (number c) s₁ s₂
-        → Describes (rowOf sort.Node b) s₂ s₃ → Describes (rowOf sort.Symbol b) s₃ s₄ → Describes (listsOf (modelOf b)) s s₄
+  module _ {s₃ : State} where
+    pub model-put : {n c : ℕ} → n ≡ theInteger type.NodeId b → c ≡ theInteger type.NamedPatternCnt b → Describes (put n (number c)) s s₁
+        → Describes (rowOf sort.Node b) s₁ s₂ → Describes (rowOf sort.Symbol b) s₂ s₃ → Describes (listsOf (modelOf b)) s s₃
     unfolding shown listsOf modelOf
-    model-put e d f g h k =
-        then-put (integer-appended type.NodeId) (number-puts type.NodeId e d)
-        (then-put (integer-appended type.NamedPatternCnt) (number-puts type.NamedPatternCnt f g)
-        (then-put (many-appended (within-appended node-appended type.Node)) (row-puts nodes-are b h) (row-puts symbols-are b k)))
-        .described
+    model-put e f d g h =
+        rw (← e, ← f)
+        (describes-then d
+        (then-put (many-appended (within-appended node-appended type.Node)) (row-puts nodes-are b g) (row-puts symbols-are b h) .described))
 
-    module _ {s₅ s₆ : State} where
-      pub node-put : {n : ℕ} → n ≡ theInteger type.NodeId b → Describes (number n) s s₁
-          → Describes (shown (maybe (integer type.Parent)) (first (integers type.Parent b))) s₁ s₂ → Describes (rowOf sort.RuleName b) s₂ s₃
-          → Describes (rowOf sort.ValueEdge b) s₃ s₄ → Describes (rowOf sort.PatternEdge b) s₄ s₅ → Describes (rowOf sort.Signer b) s₅ s₆
-          → Describes (shown node (nodeOf b)) s s₆
-      unfolding shown nodeOf
-      node-put e id parent names values patterns signers =
-          then-put (integer-appended type.NodeId) (number-puts type.NodeId e id)
-          (then-put {a = first (integers type.Parent b)} (maybe-appended (integer-appended type.Parent)) (record { described = parent })
+    module _ {s₄ s₅ : State} where
+      pub node-put : Describes (own b) s s₁ → Describes (rowOf sort.RuleName b) s₁ s₂ → Describes (rowOf sort.ValueEdge b) s₂ s₃
+          → Describes (rowOf sort.PatternEdge b) s₃ s₄ → Describes (rowOf sort.Signer b) s₄ s₅ → Describes (shown node (nodeOf b)) s s₅
+      unfolding own shown nodeOf
+      node-put d names values patterns signers =
+          numbered-then (maybe (integer type.Parent)) (first (integers type.Parent b)) (theInteger type.NodeId b)
+          (maybe-appended (integer-appended type.Parent))
+          d
           (then-put (many-appended (text-appended type.Identifier (marked 35))) (row-puts names-are b names)
           (then-put (many-appended (within-appended valueEdge-appended type.ValueEdge)) (row-puts values-are b values)
           (then-put (many-appended (within-appended patternEdge-appended type.PatternEdge)) (row-puts patterns-are b patterns)
-          (row-puts signers-are b signers)))))
-          .described
+          (row-puts signers-are b signers))))
 
 -- ---- an element, by its sort
 
@@ -179,9 +168,9 @@ module _ {k : Sort} (t : ℕ) (b : List ℕ) {s s′ : State} where
   unfolding itemOf shown termOf
   value-item e f d = rw (e, f) d
 
-  pub tag-item : k ≡ sort.Term → t ≡ type.Tag → Describes (put 1 (number (numberOf b))) s s′ → Describes (itemOf k t b) s s′
+  pub tag-item : {n : ℕ} → k ≡ sort.Term → t ≡ type.Tag → n ≡ numberOf b → Describes (put 1 (number n)) s s′ → Describes (itemOf k t b) s s′
   unfolding itemOf shown termOf
-  tag-item e f d = rw (e, f) d
+  tag-item e f g d = rw (e, f, ← g) d
 
   pub call-item : k ≡ sort.Term → (t ≡ type.Value → ⊥) → (t ≡ type.Tag → ⊥) → Describes (put 2 (shown call (callOf b))) s s′
       → Describes (itemOf k t b) s s′

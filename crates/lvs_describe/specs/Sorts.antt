@@ -4,12 +4,12 @@ use mathlib.Core.Bool.{Bool, cond, _||_}
 use mathlib.Core.List.{List}
 use lib.Dec.{eqb}
 use Rattle.tlv.specs.Element.{Element, cuts}
-use Rattle.tlv.specs.Fields.{eachCut, numberOf}
-use Rattle.tlv.specs.Lists.{when}
+use Rattle.tlv.specs.Fields.{eachCut, numberOf, integers, theInteger}
+use Rattle.tlv.specs.Lists.{when, first}
 use Rattle.lvs_spec.specs.Types as type
 use Rattle.lvs_spec.specs.Leaves.{marked}
 use Rattle.lvs_spec.specs.Model.{Term as ModelTerm, componentOf, callOf, argumentOf, optionOf, constraintOf, valueEdgeOf, patternEdgeOf, nodeOf, symbolOf}
-use Rattle.lvs_description.specs.Format.{Lists, integer, text}
+use Rattle.lvs_description.specs.Format.{Lists, put, integer, text, maybe}
 use Rattle.lvs_description.specs.Description.{argument, term, option, constraint, valueEdge, patternEdge, node, symbol}
 use Rattle.lvs_describe.specs.Parts.{shown, row}
 use Rattle.lvs_describe.specs.declared.Sort.{Sort}
@@ -37,6 +37,10 @@ isOf Argument t = eqb t type.UserFnArg
 unfoldable pub termOf : ℕ → List ℕ → ModelTerm
 termOf t b =
     cond (eqb t type.Value) (ModelTerm.value (componentOf b)) (cond (eqb t type.Tag) (ModelTerm.tag (numberOf b)) (ModelTerm.call (callOf b)))
+
+-- what a Node says of itself: its id; 0, or 1 and its Parent
+unfoldable pub own : List ℕ → Lists
+own b = put (theInteger type.NodeId b) (shown (maybe (integer type.Parent)) (first (integers type.Parent b)))
 
 -- what an element of type t with the inside b comes to
 unfoldable pub itemOf : Sort → ℕ → List ℕ → Lists

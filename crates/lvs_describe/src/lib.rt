@@ -4,7 +4,7 @@ mod lists;
 mod parts;
 mod rows;
 
-use lists::put_number;
+use lists::put_pair;
 use lvs_spec::types::NAMED_PATTERN_CNT;
 use lvs_spec::types::NODE_ID;
 use rows::put_row;
@@ -89,8 +89,9 @@ fn put_model(model: &[u8], numbers: &mut [u64], texts: &mut [u8], room: Room) ->
         (state room (now (numbers .entry)) (now (texts .entry))) (state r (now (numbers .exit)) (now (texts .exit)))
         ⌝ }
 {
-    let start = put_number(tlv::number_in(model, NODE_ID), numbers, room);
-    let count = put_number(tlv::number_in(model, NAMED_PATTERN_CNT), numbers, start);
-    let nodes = put_row(model, Sort::Node, numbers, texts, count);
+    let start = tlv::number_in(model, NODE_ID);
+    let count = tlv::number_in(model, NAMED_PATTERN_CNT);
+    let rest = put_pair(start, count, numbers, room);
+    let nodes = put_row(model, Sort::Node, numbers, texts, rest);
     put_row(model, Sort::Symbol, numbers, texts, nodes)
 }

@@ -4,7 +4,7 @@ ghost use mathlib.Core.Path.{_≡_};
 ghost use mathlib.Core.List.{List};
 ghost use Prim.Native.Nat.{ℕ, _+_, _≤_};
 ghost use lib.ListN.{length};
-ghost use Rattle.lvs_description.specs.Format.{putText};
+ghost use Rattle.lvs_description.specs.Format.{put, putText};
 ghost use Rattle.lvs_describe.specs.Parts.{nothing, number, bytes};
 ghost use Rattle.lvs_describe.specs.Lent.{Put, state, Describes};
 use crate::Room;
@@ -36,7 +36,35 @@ pub(crate) fn put_number(n: u64, numbers: &mut [u64], room: Room) -> Room
     after
 }
 
-// Its length, which is a number, and its bytes.
+pub(crate) fn put_pair(a: u64, b: u64, numbers: &mut [u64], room: Room) -> Room
+    ensures { λ r.
+        ⌜
+        ((ts : List ℕ) → Describes (put a (number b)) (state room (now (numbers .entry)) ts) (state r (now (numbers .exit)) ts))
+        ⌝ }
+{
+    let rest = put_number(a, numbers, room);
+    put_number(b, numbers, rest)
+}
+
+// A number and a text.
+pub(crate) fn put_numbered(
+    n: u64,
+    s: &[u8],
+    numbers: &mut [u64],
+    texts: &mut [u8],
+    room: Room,
+) -> Room
+    ensures { λ r.
+        ⌜
+        Describes (put n (putText (now (s .entry)) nothing))
+        (state room (now (numbers .entry)) (now (texts .entry))) (state r (now (numbers .exit)) (now (texts .exit)))
+        ⌝ }
+{
+    let rest = put_number(n, numbers, room);
+    put_text(s, numbers, texts, rest)
+}
+
+// A text: its length, which is a number, and its bytes.
 pub(crate) fn put_text(s: &[u8], numbers: &mut [u64], texts: &mut [u8], room: Room) -> Room
     ensures { λ r.
         ⌜

@@ -1,21 +1,21 @@
 // The parts of a description that hold no row of others.
 ghost use mathlib.Core.List.{List};
 ghost use Prim.Native.Nat.{ℕ};
-ghost use Rattle.tlv.specs.Fields.{numberOf, integers};
-ghost use Rattle.tlv.specs.Lists.{first};
 ghost use Rattle.lvs_spec.specs.Types as type;
 ghost use Rattle.lvs_spec.specs.Model.{componentOf, argumentOf, valueEdgeOf, symbolOf};
-ghost use Rattle.lvs_description.specs.Format.{put, component, integer, maybe};
+ghost use Rattle.lvs_description.specs.Format.{put, component};
 ghost use Rattle.lvs_description.specs.Description.{argument, valueEdge, symbol};
-ghost use Rattle.lvs_describe.specs.Parts.{shown, number};
+ghost use Rattle.lvs_describe.specs.Parts.{shown};
 ghost use Rattle.lvs_describe.specs.Lent.{state, Describes};
+ghost use Rattle.lvs_describe.specs.Sorts.{own};
 ghost use Rattle.lvs_describe.specs.Found.{ComponentAt, ArgumentAt};
 use crate::Component;
 use crate::Held;
 use crate::Room;
 use crate::Sort;
 use crate::lists::put_number;
-use crate::lists::put_text;
+use crate::lists::put_numbered;
+use crate::lists::put_pair;
 use crate::rows::count_items;
 use lvs_spec::types::IDENTIFIER;
 use lvs_spec::types::NODE_ID;
@@ -25,34 +25,34 @@ use lvs_spec::types::VALUE;
 use tlv::Place;
 use tlv::Read;
 
-// 0, or 1 and the Parent.
-pub(crate) fn put_parent(node: &[u8], numbers: &mut [u64], room: Room) -> Room
+// What a Node says of itself: its id; 0, or 1 and its Parent.
+pub(crate) fn put_own(node: &[u8], numbers: &mut [u64], room: Room) -> Room
     ensures { λ r.
         ⌜
         ((ts : List ℕ) →
-        Describes (shown (maybe (integer type.Parent)) (first (integers type.Parent (now (node .entry)))))
-        (state room (now (numbers .entry)) ts) (state r (now (numbers .exit)) ts))
+        Describes (own (now (node .entry))) (state room (now (numbers .entry)) ts) (state r (now (numbers .exit)) ts))
         ⌝ }
 {
+    let id = tlv::number_in(node, NODE_ID);
     if count_items(node, Sort::Parent) < 1 {
-        return put_number(0, numbers, room);
+        return put_pair(id, 0, numbers, room);
     }
-    let rest = put_number(1, numbers, room);
-    put_number(tlv::number_in(node, PARENT), numbers, rest)
+    let rest = put_number(id, numbers, room);
+    put_pair(1, tlv::number_in(node, PARENT), numbers, rest)
 }
 
-pub(crate) fn put_value_edge(edge: &[u8], numbers: &mut [u64], texts: &mut [u8], room: Room) -> Room
+pub(crate) fn put_value_edge(b: &[u8], numbers: &mut [u64], texts: &mut [u8], room: Room) -> Room
     ensures { λ r.
         ⌜
-        Describes (shown valueEdge (valueEdgeOf (now (edge .entry))))
+        Describes (shown valueEdge (valueEdgeOf (now (b .entry))))
         (state room (now (numbers .entry)) (now (texts .entry))) (state r (now (numbers .exit)) (now (texts .exit)))
         ⌝ }
 {
-    let rest = put_number(tlv::number_in(edge, NODE_ID), numbers, room);
-    let part = tlv::inside_of(edge, VALUE);
+    let destination = tlv::number_in(b, NODE_ID);
+    let part = tlv::inside_of(b, VALUE);
     let start = part.start;
     let end = part.end;
-    put_component(&edge[start..end], numbers, texts, rest)
+    put_component(destination, &b[start..end], numbers, texts, room)
 }
 
 pub(crate) fn put_symbol(b: &[u8], numbers: &mut [u64], texts: &mut [u8], room: Room) -> Room
@@ -62,11 +62,11 @@ pub(crate) fn put_symbol(b: &[u8], numbers: &mut [u64], texts: &mut [u8], room: 
         (state room (now (numbers .entry)) (now (texts .entry))) (state r (now (numbers .exit)) (now (texts .exit)))
         ⌝ }
 {
-    let rest = put_number(tlv::number_in(b, TAG), numbers, room);
+    let tag = tlv::number_in(b, TAG);
     let part = tlv::inside_of(b, IDENTIFIER);
     let start = part.start;
     let end = part.end;
-    put_text(&b[start..end], numbers, texts, rest)
+    put_numbered(tag, &b[start..end], numbers, texts, room)
 }
 
 pub(crate) fn put_argument(b: &[u8], numbers: &mut [u64], texts: &mut [u8], room: Room) -> Room
@@ -79,48 +79,32 @@ pub(crate) fn put_argument(b: &[u8], numbers: &mut [u64], texts: &mut [u8], room
     let held = first_held(b);
     let start = held.start;
     let end = held.end;
+    let inside = &b[start..end];
     if held.value {
-        return put_value(&b[start..end], numbers, texts, room);
+        return put_component(0, inside, numbers, texts, room);
     }
-    put_tag(&b[start..end], numbers, room)
+    put_pair(1, tlv::number_of(inside), numbers, room)
 }
 
-// As an argument and as a term: 0 and the component.
-pub(crate) fn put_value(value: &[u8], numbers: &mut [u64], texts: &mut [u8], room: Room) -> Room
+// The component in a Value, its type and its text, behind a number.
+pub(crate) fn put_component(
+    n: u64,
+    value: &[u8],
+    numbers: &mut [u64],
+    texts: &mut [u8],
+    room: Room,
+) -> Room
     ensures { λ r.
         ⌜
-        Describes (put 0 (shown (component type.Value) (componentOf (now (value .entry)))))
-        (state room (now (numbers .entry)) (now (texts .entry))) (state r (now (numbers .exit)) (now (texts .exit)))
-        ⌝ }
-{
-    let rest = put_number(0, numbers, room);
-    put_component(value, numbers, texts, rest)
-}
-
-// As an argument and as a term: 1 and the Tag.
-pub(crate) fn put_tag(tag: &[u8], numbers: &mut [u64], room: Room) -> Room
-    ensures { λ r.
-        ⌜
-        ((ts : List ℕ) → Describes (put 1 (number (numberOf (now (tag .entry))))) (state room (now (numbers .entry)) ts) (state r (now (numbers .exit)) ts))
-        ⌝ }
-{
-    let rest = put_number(1, numbers, room);
-    put_number(tlv::number_of(tag), numbers, rest)
-}
-
-// The component in a Value: its type and its text.
-fn put_component(value: &[u8], numbers: &mut [u64], texts: &mut [u8], room: Room) -> Room
-    ensures { λ r.
-        ⌜
-        Describes (shown (component type.Value) (componentOf (now (value .entry))))
+        Describes (put n (shown (component type.Value) (componentOf (now (value .entry)))))
         (state room (now (numbers .entry)) (now (texts .entry))) (state r (now (numbers .exit)) (now (texts .exit)))
         ⌝ }
 {
     let held = component_in(value);
     let start = held.start;
     let end = held.end;
-    let rest = put_number(held.typ as u64, numbers, room);
-    put_text(&value[start..end], numbers, texts, rest)
+    let rest = put_number(n, numbers, room);
+    put_numbered(held.typ as u64, &value[start..end], numbers, texts, rest)
 }
 
 fn component_in(value: &[u8]) -> Component

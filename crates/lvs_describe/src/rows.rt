@@ -10,12 +10,13 @@ ghost use Rattle.lvs_describe.specs.Sorts.{isOf, isTerm, itemOf, itemsOf
 use crate::Room;
 use crate::Sort;
 use crate::lists::put_number;
+use crate::lists::put_numbered;
+use crate::lists::put_pair;
 use crate::lists::put_text;
 use crate::parts::put_argument;
-use crate::parts::put_parent;
+use crate::parts::put_component;
+use crate::parts::put_own;
 use crate::parts::put_symbol;
-use crate::parts::put_tag;
-use crate::parts::put_value;
 use crate::parts::put_value_edge;
 use lvs_spec::types::CONSTRAINT;
 use lvs_spec::types::CONSTRAINT_OPTION;
@@ -100,8 +101,8 @@ fn put_item(
         Sort::Constraint => put_row(b, Sort::ConstraintOption, numbers, texts, room),
         Sort::ConstraintOption => put_row(b, Sort::Term, numbers, texts, room),
         Sort::Term => match typ {
-            VALUE => put_value(b, numbers, texts, room),
-            TAG => put_tag(b, numbers, room),
+            VALUE => put_component(0, b, numbers, texts, room),
+            TAG => put_pair(1, tlv::number_of(b), numbers, room),
             _ => put_call(b, numbers, texts, room),
         },
         Sort::Argument => put_argument(b, numbers, texts, room),
@@ -115,9 +116,8 @@ fn put_node(b: &[u8], numbers: &mut [u64], texts: &mut [u8], room: Room) -> Room
         (state room (now (numbers .entry)) (now (texts .entry))) (state r (now (numbers .exit)) (now (texts .exit)))
         ⌝ }
 {
-    let id = put_number(tlv::number_in(b, NODE_ID), numbers, room);
-    let parent = put_parent(b, numbers, id);
-    let names = put_row(b, Sort::RuleName, numbers, texts, parent);
+    let own = put_own(b, numbers, room);
+    let names = put_row(b, Sort::RuleName, numbers, texts, own);
     let values = put_row(b, Sort::ValueEdge, numbers, texts, names);
     let patterns = put_row(b, Sort::PatternEdge, numbers, texts, values);
     put_row(b, Sort::Signer, numbers, texts, patterns)
@@ -130,9 +130,9 @@ fn put_pattern_edge(b: &[u8], numbers: &mut [u64], texts: &mut [u8], room: Room)
         (state room (now (numbers .entry)) (now (texts .entry))) (state r (now (numbers .exit)) (now (texts .exit)))
         ⌝ }
 {
-    let destination = put_number(tlv::number_in(b, NODE_ID), numbers, room);
-    let tag = put_number(tlv::number_in(b, TAG), numbers, destination);
-    put_row(b, Sort::Constraint, numbers, texts, tag)
+    let destination = tlv::number_in(b, NODE_ID);
+    let rest = put_pair(destination, tlv::number_in(b, TAG), numbers, room);
+    put_row(b, Sort::Constraint, numbers, texts, rest)
 }
 
 // As a term: 2 and the UserFnCall.
@@ -143,12 +143,11 @@ fn put_call(b: &[u8], numbers: &mut [u64], texts: &mut [u8], room: Room) -> Room
         (state room (now (numbers .entry)) (now (texts .entry))) (state r (now (numbers .exit)) (now (texts .exit)))
         ⌝ }
 {
-    let kind = put_number(2, numbers, room);
     let part = tlv::inside_of(b, FN_ID);
     let start = part.start;
     let end = part.end;
-    let function = put_text(&b[start..end], numbers, texts, kind);
-    put_row(b, Sort::Argument, numbers, texts, function)
+    let rest = put_numbered(2, &b[start..end], numbers, texts, room);
+    put_row(b, Sort::Argument, numbers, texts, rest)
 }
 
 // How many elements of one sort `s` holds. Only their headers are looked at.

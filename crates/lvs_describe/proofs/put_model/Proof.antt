@@ -8,19 +8,16 @@ returns : tie.Need-returns
 returns c =
     let symbols = c .before .before .before .before in
     let nodes = symbols .before .before .before .before .before .before .before in
-    let count = nodes .before .before .before .before .before in
-    let integer = count .before .before in
-    let start = integer .before .before .before in
-    let to = start .before .before in
-    model-put _ (to .number-in .ensures) (start .put-number .ensures _) (integer .number-in2 .ensures) (count .put-number2 .ensures _)
-    (nodes .put-row .ensures)
+    let pair = nodes .before .before .before .before .before in
+    let count = pair .before .before in
+    let start = count .before in
+    model-put _ (start .number-in .ensures) (count .number-in2 .ensures) (pair .put-pair .ensures _) (nodes .put-row .ensures)
     (symbols .put-row2 .ensures)
 
 pub put-model-spec : {M : Type 1} → statement M
 put-model-spec =
     tie.close
     (tie.spec
-    (λ c κs. search needs)
     (λ c κs. search needs)
     (λ c κs. search needs)
     (λ c κs. search needs)

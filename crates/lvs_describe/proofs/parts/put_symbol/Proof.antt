@@ -8,15 +8,12 @@ returns : tie.Need-returns
 returns c =
     let text = c .before .before .before .before in
     let inside = text .before .before .before .before in
-    let tag = inside .before .before .before in
-    let integer = tag .before .before in
-    symbol-put _ (integer .number-in .ensures) (tag .put-number .ensures _) (inside .inside-of .ensures) (text .put-text .ensures)
+    symbol-put _ (inside .before .number-in .ensures) (inside .inside-of .ensures) (text .put-numbered .ensures)
 
 pub put-symbol-spec : {M : Type 1} → statement M
 put-symbol-spec =
     tie.close
     (tie.spec
-    (λ c κs. search needs)
     (λ c κs. search needs)
     (λ c κs. search needs)
     (λ c. search needs)

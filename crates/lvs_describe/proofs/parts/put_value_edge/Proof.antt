@@ -8,15 +8,12 @@ returns : tie.Need-returns
 returns c =
     let component = c .before .before .before .before in
     let inside = component .before .before .before .before in
-    let destination = inside .before .before .before in
-    let integer = destination .before .before in
-    value-edge-put _ (integer .number-in .ensures) (destination .put-number .ensures _) (inside .inside-of .ensures) (component .put-component .ensures)
+    value-edge-put _ (inside .before .number-in .ensures) (inside .inside-of .ensures) (component .put-component .ensures)
 
 pub put-value-edge-spec : {M : Type 1} → statement M
 put-value-edge-spec =
     tie.close
     (tie.spec
-    (λ c κs. search needs)
     (λ c κs. search needs)
     (λ c κs. search needs)
     (λ c. search needs)

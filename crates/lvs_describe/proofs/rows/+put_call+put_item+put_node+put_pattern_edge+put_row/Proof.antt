@@ -24,18 +24,19 @@ use Rattle.lvs_describe.proofs.rows.put_node.Reads as put-node
 use Rattle.lvs_describe.proofs.rows.put_node.Kinds as put-node-kinds
 use Rattle.lvs_describe.proofs.rows.+put_call+put_item+put_node+put_pattern_edge+put_row.Lts-put_node as put-node-lts
 use Rattle.lvs_describe.proofs.rows.put_pattern_edge.Reads as put-pattern-edge
-use Rattle.lvs_describe.proofs.rows.put_pattern_edge.Kinds as put-pattern-edge-kinds
-use Rattle.lvs_describe.proofs.rows.+put_call+put_item+put_node+put_pattern_edge+put_row.Lts-put_pattern_edge as put-pattern-edge-lts
+use Rattle.lvs_describe.proofs.rows.put_pattern_edge.Kinds as edge-kinds
+use Rattle.lvs_describe.proofs.rows.+put_call+put_item+put_node+put_pattern_edge+put_row.Lts-put_pattern_edge as edge-lts
 use Rattle.lvs_describe.proofs.rows.put_row.Reads as put-row
 use Rattle.lvs_describe.proofs.rows.put_row.Kinds as put-row-kinds
 use Rattle.lvs_describe.proofs.rows.+put_call+put_item+put_node+put_pattern_edge+put_row.Lts-put_row as put-row-lts
 use Rattle.lvs_describe.proofs.lists.put_number.Reads as put-number-reads
+use Rattle.lvs_describe.proofs.lists.put_numbered.Reads as put-numbered-reads
+use Rattle.lvs_describe.proofs.lists.put_pair.Reads as put-pair-reads
 use Rattle.lvs_describe.proofs.lists.put_text.Reads as put-text-reads
 use Rattle.lvs_describe.proofs.parts.put_argument.Reads as put-argument-reads
-use Rattle.lvs_describe.proofs.parts.put_parent.Reads as put-parent-reads
+use Rattle.lvs_describe.proofs.parts.put_component.Reads as put-component-reads
+use Rattle.lvs_describe.proofs.parts.put_own.Reads as put-own-reads
 use Rattle.lvs_describe.proofs.parts.put_symbol.Reads as put-symbol-reads
-use Rattle.lvs_describe.proofs.parts.put_tag.Reads as put-tag-reads
-use Rattle.lvs_describe.proofs.parts.put_value.Reads as put-value-reads
 use Rattle.lvs_describe.proofs.parts.put_value_edge.Reads as put-value-edge-reads
 use Rattle.lvs_describe.proofs.rows.count_items.Reads as count-items-reads
 use Rattle.lvs_describe.proofs.rows.is_of.Reads as is-of-reads
@@ -57,7 +58,7 @@ abbrev μ-put-item : Measures 3 put-item-kinds.ps ℕ
 abbrev μ-put-node : Measures 3 put-node-kinds.ps ℕ
 μ-put-node κs a = 3 * length (a .0 .now) + 1
 
-abbrev μ-put-pattern-edge : Measures 3 put-pattern-edge-kinds.ps ℕ
+abbrev μ-put-pattern-edge : Measures 3 edge-kinds.ps ℕ
 μ-put-pattern-edge κs a = 3 * length (a .0 .now) + 1
 
 abbrev μ-put-row : Measures 3 put-row-kinds.ps ℕ
@@ -81,12 +82,12 @@ put-node-at t = and 3 put-node-kinds.ps (is 3 put-node-kinds.ps μ-put-node t) p
 abbrev put-node-below : ℕ → In 3 put-node-kinds.ps
 put-node-below t = and 3 put-node-kinds.ps (falls 3 put-node-kinds.ps _<_ μ-put-node t) put-node.Pre
 
-abbrev put-pattern-edge-at : ℕ → In 3 put-pattern-edge-kinds.ps
-put-pattern-edge-at t = and 3 put-pattern-edge-kinds.ps (is 3 put-pattern-edge-kinds.ps μ-put-pattern-edge t) put-pattern-edge.Pre
+abbrev put-pattern-edge-at : ℕ → In 3 edge-kinds.ps
+put-pattern-edge-at t = and 3 edge-kinds.ps (is 3 edge-kinds.ps μ-put-pattern-edge t) put-pattern-edge.Pre
 
-abbrev put-pattern-edge-below : ℕ → In 3 put-pattern-edge-kinds.ps
+abbrev put-pattern-edge-below : ℕ → In 3 edge-kinds.ps
 put-pattern-edge-below t =
-    and 3 put-pattern-edge-kinds.ps (falls 3 put-pattern-edge-kinds.ps _<_ μ-put-pattern-edge t) put-pattern-edge.Pre
+    and 3 edge-kinds.ps (falls 3 edge-kinds.ps _<_ μ-put-pattern-edge t) put-pattern-edge.Pre
 
 abbrev put-row-at : ℕ → In 3 put-row-kinds.ps
 put-row-at t = and 3 put-row-kinds.ps (is 3 put-row-kinds.ps μ-put-row t) put-row.Pre
@@ -98,33 +99,30 @@ put-row-below t = and 3 put-row-kinds.ps (falls 3 put-row-kinds.ps _<_ μ-put-ro
 
 abbrev put-call-calls : ℕ → put-call-lts.Claims
 put-call-calls t = (
-  put-number-reads.Asked,
-  put-number-reads.Learnt,
   inside-of-reads.Asked,
   inside-of-reads.Learnt,
-  put-text-reads.Asked,
-  put-text-reads.Learnt,
+  put-numbered-reads.Asked,
+  put-numbered-reads.Learnt,
   put-row-below t,
   put-row.Post,
 )
 
-abbrev put-call-need : (put-call-lts.Claims → In 3 put-call-kinds.ps → Out 3 put-call-kinds.ps put-call-kinds.r → Type 0) → ℕ → Type 0
+abbrev put-call-need : (put-call-lts.Claims → In 3 put-call-kinds.ps → Out 3 put-call-kinds.ps put-call-kinds.r → Type 0)
+    → ℕ → Type 0
 put-call-need N t = N (put-call-calls t) (put-call-at t) put-call.Post
 
 put-call-put-row-requires : (t : ℕ) → put-call-need put-call-lts.Need-put-row-requires t
 put-call-put-row-requires t c κs =
     let function = c .before .before .before .before .before .before in
     let inside = function .before .before .before .before in
-    let start = inside .before .before .before .before .before in
-    (omega (arith, start .before .before .before .pre .0), tt)
+    (omega (arith, inside .before .before .before .before .pre .0), tt)
 
 put-call-returns : (t : ℕ) → put-call-need put-call-lts.Need-returns t
 put-call-returns t c =
     let arguments = c .before .before .before .before in
     let function = arguments .before .before .before .before .before .before .before in
     let inside = function .before .before .before .before in
-    let kind = inside .before .before .before in
-    call-put _ (kind .put-number .ensures _) (inside .inside-of .ensures) (function .put-text .ensures) (arguments .put-row .ensures)
+    call-put _ (inside .inside-of .ensures) (function .put-numbered .ensures) (arguments .put-row .ensures)
 
 -- ---- put_item
 
@@ -146,33 +144,44 @@ put-item-calls t = (
   put-pattern-edge.Post,
   put-row-below t,
   put-row.Post,
-  put-value-reads.Asked,
-  put-value-reads.Learnt,
-  put-tag-reads.Asked,
-  put-tag-reads.Learnt,
+  put-component-reads.Asked,
+  put-component-reads.Learnt,
+  put-pair-reads.Asked,
+  put-pair-reads.Learnt,
   put-call-below t,
   put-call.Post,
   put-argument-reads.Asked,
   put-argument-reads.Learnt,
 )
 
-abbrev put-item-need : (put-item-lts.Claims → In 3 put-item-kinds.ps → Out 3 put-item-kinds.ps put-item-kinds.r → Type 0) → ℕ → Type 0
+abbrev put-item-need : (put-item-lts.Claims → In 3 put-item-kinds.ps → Out 3 put-item-kinds.ps put-item-kinds.r → Type 0)
+    → ℕ → Type 0
 put-item-need N t = N (put-item-calls t) (put-item-at t) put-item.Post
 
 put-item-put-node-requires : (t : ℕ) → put-item-need put-item-lts.Need-put-node-requires t
-put-item-put-node-requires t c κs = (omega (arith, c .before .before .before .before .before .before .before .pre .0), tt)
+put-item-put-node-requires t c κs =
+    let told = c .before .before .before in
+    (omega (arith, told .before .before .before .before .pre .0), tt)
 
 put-item-put-pattern-edge-requires : (t : ℕ) → put-item-need put-item-lts.Need-put-pattern-edge-requires t
-put-item-put-pattern-edge-requires t c κs = (omega (arith, c .before .before .before .before .before .before .before .pre .0), tt)
+put-item-put-pattern-edge-requires t c κs =
+    let told = c .before .before .before in
+    (omega (arith, told .before .before .before .before .pre .0), tt)
 
 put-item-put-row-requires : (t : ℕ) → put-item-need put-item-lts.Need-put-row-requires t
-put-item-put-row-requires t c κs = (omega (arith, c .before .before .before .before .before .before .before .pre .0), tt)
+put-item-put-row-requires t c κs =
+    let told = c .before .before .before in
+    (omega (arith, told .before .before .before .before .pre .0), tt)
 
 put-item-put-row-requires-2 : (t : ℕ) → put-item-need put-item-lts.Need-put-row-requires-2 t
-put-item-put-row-requires-2 t c κs = (omega (arith, c .before .before .before .before .before .before .before .pre .0), tt)
+put-item-put-row-requires-2 t c κs =
+    let told = c .before .before .before in
+    (omega (arith, told .before .before .before .before .pre .0), tt)
 
 put-item-put-call-requires : (t : ℕ) → put-item-need put-item-lts.Need-put-call-requires t
-put-item-put-call-requires t c κs = (omega (arith, c .before .before .before .before .before .before .before .before .pre .0), tt)
+put-item-put-call-requires t c κs =
+    let told = c .before .before .before .before in
+    (omega (arith, told .before .before .before .before .pre .0), tt)
 
 put-item-returns : (t : ℕ) → put-item-need put-item-lts.Need-returns t
 put-item-returns t c =
@@ -223,13 +232,13 @@ put-item-returns-10 : (t : ℕ) → put-item-need put-item-lts.Need-returns-10 t
 put-item-returns-10 t c =
     let value = c .before .before .before .before in
     let arm = value .before .before .before in
-    value-item _ _ (arm .before .enum-told10 .given .1) (arm .match2 .keys1) (value .put-value .ensures)
+    value-item _ _ (arm .before .enum-told10 .given .1) (arm .match2 .keys1) (value .put-component .ensures)
 
 put-item-returns-11 : (t : ℕ) → put-item-need put-item-lts.Need-returns-11 t
 put-item-returns-11 t c =
     let tag = c .before .before in
-    let arm = tag .before .before in
-    tag-item _ _ (arm .before .enum-told10 .given .1) (arm .match2 .keys2) (tag .put-tag .ensures _)
+    let arm = tag .before .before .before in
+    tag-item _ _ (arm .before .enum-told10 .given .1) (arm .match2 .keys2) (tag .before .before .number-of3 .ensures) (tag .put-pair .ensures _)
 
 put-item-returns-12 : (t : ℕ) → put-item-need put-item-lts.Need-returns-12 t
 put-item-returns-12 t c =
@@ -246,48 +255,41 @@ put-item-returns-13 t c =
 
 abbrev put-node-calls : ℕ → put-node-lts.Claims
 put-node-calls t = (
-  number-in-reads.Asked,
-  number-in-reads.Learnt,
-  put-number-reads.Asked,
-  put-number-reads.Learnt,
-  put-parent-reads.Asked,
-  put-parent-reads.Learnt,
+  put-own-reads.Asked,
+  put-own-reads.Learnt,
   put-row-below t,
   put-row.Post,
 )
 
-abbrev put-node-need : (put-node-lts.Claims → In 3 put-node-kinds.ps → Out 3 put-node-kinds.ps put-node-kinds.r → Type 0) → ℕ → Type 0
+abbrev put-node-need : (put-node-lts.Claims → In 3 put-node-kinds.ps → Out 3 put-node-kinds.ps put-node-kinds.r → Type 0)
+    → ℕ → Type 0
 put-node-need N t = N (put-node-calls t) (put-node-at t) put-node.Post
 
 put-node-put-row-requires : (t : ℕ) → put-node-need put-node-lts.Need-put-row-requires t
 put-node-put-row-requires t c κs =
-    let parent = c .before .before .before .before in
-    let integer = parent .before .before .before .before .before .before in
-    (omega (arith, integer .before .before .before .before .pre .0), tt)
+    let own = c .before .before .before .before in
+    (omega (arith, own .before .before .before .before .before .pre .0), tt)
 
 put-node-put-row-requires-2 : (t : ℕ) → put-node-need put-node-lts.Need-put-row-requires-2 t
 put-node-put-row-requires-2 t c κs =
     let names = c .before .before .before .before .before .before in
-    let parent = names .before .before .before .before .before in
-    let integer = parent .before .before .before .before .before .before in
-    (omega (arith, integer .before .before .before .before .pre .0), tt)
+    let own = names .before .before .before .before .before in
+    (omega (arith, own .before .before .before .before .before .pre .0), tt)
 
 put-node-put-row-requires-3 : (t : ℕ) → put-node-need put-node-lts.Need-put-row-requires-3 t
 put-node-put-row-requires-3 t c κs =
     let values = c .before .before .before .before .before .before in
     let names = values .before .before .before .before .before .before .before in
-    let parent = names .before .before .before .before .before in
-    let integer = parent .before .before .before .before .before .before in
-    (omega (arith, integer .before .before .before .before .pre .0), tt)
+    let own = names .before .before .before .before .before in
+    (omega (arith, own .before .before .before .before .before .pre .0), tt)
 
 put-node-put-row-requires-4 : (t : ℕ) → put-node-need put-node-lts.Need-put-row-requires-4 t
 put-node-put-row-requires-4 t c κs =
     let patterns = c .before .before .before .before .before .before in
     let values = patterns .before .before .before .before .before .before .before in
     let names = values .before .before .before .before .before .before .before in
-    let parent = names .before .before .before .before .before in
-    let integer = parent .before .before .before .before .before .before in
-    (omega (arith, integer .before .before .before .before .pre .0), tt)
+    let own = names .before .before .before .before .before in
+    (omega (arith, own .before .before .before .before .before .pre .0), tt)
 
 put-node-returns : (t : ℕ) → put-node-need put-node-lts.Need-returns t
 put-node-returns t c =
@@ -295,13 +297,8 @@ put-node-returns t c =
     let patterns = signers .before .before .before .before .before .before .before in
     let values = patterns .before .before .before .before .before .before .before in
     let names = values .before .before .before .before .before .before .before in
-    let parent = names .before .before .before .before .before in
-    let id = parent .before .before .before .before in
-    let integer = id .before .before in
-    node-put _ (integer .number-in .ensures) (id .put-number .ensures _) (parent .put-parent .ensures _) (names .put-row .ensures)
-    (values .put-row2 .ensures)
-    (patterns .put-row3 .ensures)
-    (signers .put-row4 .ensures)
+    let own = names .before .before .before .before .before in
+    node-put _ (own .put-own .ensures _) (names .put-row .ensures) (values .put-row2 .ensures) (patterns .put-row3 .ensures) (signers .put-row4 .ensures)
 
 put-node-same-length : (t : ℕ) → put-node-need put-node-lts.Need-same-length t
 put-node-same-length t c = put-node-returns t c .numbers-are .kept
@@ -311,34 +308,31 @@ put-node-same-length-2 t c = put-node-returns t c .texts-are .kept
 
 -- ---- put_pattern_edge
 
-abbrev put-pattern-edge-calls : ℕ → put-pattern-edge-lts.Claims
+abbrev put-pattern-edge-calls : ℕ → edge-lts.Claims
 put-pattern-edge-calls t = (
   number-in-reads.Asked,
   number-in-reads.Learnt,
-  put-number-reads.Asked,
-  put-number-reads.Learnt,
+  put-pair-reads.Asked,
+  put-pair-reads.Learnt,
   put-row-below t,
   put-row.Post,
 )
 
-abbrev put-pattern-edge-need : (put-pattern-edge-lts.Claims → In 3 put-pattern-edge-kinds.ps → Out 3 put-pattern-edge-kinds.ps put-pattern-edge-kinds.r → Type 0) → ℕ → Type 0
+abbrev put-pattern-edge-need : (edge-lts.Claims → In 3 edge-kinds.ps → Out 3 edge-kinds.ps edge-kinds.r → Type 0)
+    → ℕ → Type 0
 put-pattern-edge-need N t = N (put-pattern-edge-calls t) (put-pattern-edge-at t) put-pattern-edge.Post
 
-put-pattern-edge-put-row-requires : (t : ℕ) → put-pattern-edge-need put-pattern-edge-lts.Need-put-row-requires t
+put-pattern-edge-put-row-requires : (t : ℕ) → put-pattern-edge-need edge-lts.Need-put-row-requires t
 put-pattern-edge-put-row-requires t c κs =
-    let integer = c .before .before .before .before .before .before in
-    let to = integer .before .before .before .before .before in
-    (omega (arith, to .before .before .before .before .pre .0), tt)
+    let pair = c .before .before .before .before in
+    (omega (arith, pair .before .before .before .before .before .before .before .pre .0), tt)
 
-put-pattern-edge-returns : (t : ℕ) → put-pattern-edge-need put-pattern-edge-lts.Need-returns t
+put-pattern-edge-returns : (t : ℕ) → put-pattern-edge-need edge-lts.Need-returns t
 put-pattern-edge-returns t c =
     let constraints = c .before .before .before .before in
-    let tag = constraints .before .before .before .before .before in
-    let integer = tag .before .before in
-    let destination = integer .before .before .before in
-    let to = destination .before .before in
-    pattern-edge-put _ (to .number-in .ensures) (destination .put-number .ensures _) (integer .number-in2 .ensures)
-    (tag .put-number2 .ensures _)
+    let pair = constraints .before .before .before .before .before in
+    let destination = pair .before .before .before in
+    pattern-edge-put _ (destination .number-in .ensures) (pair .before .before .number-in2 .ensures) (pair .put-pair .ensures _)
     (constraints .put-row .ensures)
 
 -- ---- put_row
@@ -364,7 +358,8 @@ Inv s sort numbers₀ texts₀ rest₀ place₀ numbers texts rest place =
 abbrev μ : put-row-lts.MeasureT-loop
 μ s sort numbers₀ texts₀ rest₀ place₀ numbers texts rest place = length s - place .at
 
-abbrev put-row-need : (put-row-lts.Claims → In 3 put-row-kinds.ps → Out 3 put-row-kinds.ps put-row-kinds.r → put-row-lts.InvT-loop → put-row-lts.MeasureT-loop → Type 0)
+abbrev put-row-need
+    : (put-row-lts.Claims → In 3 put-row-kinds.ps → Out 3 put-row-kinds.ps put-row-kinds.r → put-row-lts.InvT-loop → put-row-lts.MeasureT-loop → Type 0)
     → ℕ → Type 0
 put-row-need N t = N (put-row-calls t) (put-row-at t) put-row.Post Inv μ
 
@@ -393,14 +388,17 @@ put-row-put-item-requires t c κs =
     (simp (length-take, length-drop) (omega (arith, count .before .before .before .before .pre .0, step t turn)), tt)
 
 put-row-loop-less : (t : ℕ) → put-row-need put-row-lts.Need-loop-less t
-put-row-loop-less t c = omega (arith, step t (c .before .before .before .before .before .before .before .before .before .before .before))
+put-row-loop-less t c =
+    let item = c .before .before .before .before in
+    omega (arith, step t (item .before .before .before .before .before .before .before))
 
 put-row-loop-again : (t : ℕ) → put-row-need put-row-lts.Need-loop-again t
 put-row-loop-again t c =
     let item = c .before .before .before .before in
     let test = item .before .before .before .before in
     let turn = test .before .before .before in
-    walk-item (turn .before .before .before .loop .inv) (item-found _ (step t turn) (sym (test .before .is-of .ensures) ∙ test .if1 .taken)) (item .put-item .ensures)
+    walk-item (turn .before .before .before .loop .inv) (item-found _ (step t turn) (sym (test .before .is-of .ensures) ∙ test .if1 .taken))
+    (item .put-item .ensures)
 
 put-row-loop-less-2 : (t : ℕ) → put-row-need put-row-lts.Need-loop-less-2 t
 put-row-loop-less-2 t c = omega (arith, step t (c .before .before .before))
@@ -429,7 +427,6 @@ pub +put-call+put-item+put-node+put-pattern-edge+put-row-spec : {M : Type 1} →
     (λ t. put-call-lts.spec (put-call-calls t)
     (put-call-at t)
     put-call.Post
-    (λ c κs. search needs)
     (λ c κs. search needs)
     (λ c. search needs)
     (λ c. search needs)
@@ -463,6 +460,7 @@ pub +put-call+put-item+put-node+put-pattern-edge+put-row-spec : {M : Type 1} →
     (λ c. search needs)
     (put-item-put-row-requires-2 t)
     (λ c. search needs)
+    (λ c κs. search needs)
     (λ c κs. search needs)
     (λ c κs. search needs)
     (put-item-put-call-requires t)
@@ -508,8 +506,6 @@ pub +put-call+put-item+put-node+put-pattern-edge+put-row-spec : {M : Type 1} →
     (put-node-at t)
     put-node.Post
     (λ c κs. search needs)
-    (λ c κs. search needs)
-    (λ c κs. search needs)
     (put-node-put-row-requires t)
     (put-node-put-row-requires-2 t)
     (put-node-put-row-requires-3 t)
@@ -517,10 +513,9 @@ pub +put-call+put-item+put-node+put-pattern-edge+put-row-spec : {M : Type 1} →
     (put-node-same-length t)
     (put-node-same-length-2 t)
     (put-node-returns t))
-    (λ t. put-pattern-edge-lts.spec (put-pattern-edge-calls t)
+    (λ t. edge-lts.spec (put-pattern-edge-calls t)
     (put-pattern-edge-at t)
     put-pattern-edge.Post
-    (λ c κs. search needs)
     (λ c κs. search needs)
     (λ c κs. search needs)
     (λ c κs. search needs)
