@@ -162,12 +162,8 @@ fn first_held(b: &[u8]) -> Held
                     };
                 }
             }
-            Read::End => {
-                return none;
-            }
-            Read::Malformed => {
-                return none;
-            }
+            Read::End => return none,
+            Read::Malformed => return none,
         }
     }
 }

@@ -65,12 +65,8 @@ pub(crate) fn put_row(
                     rest = put_item(&s[start..end], typ, sort, numbers, texts, rest);
                 }
             }
-            Read::End => {
-                return rest;
-            }
-            Read::Malformed => {
-                return rest;
-            }
+            Read::End => return rest,
+            Read::Malformed => return rest,
         }
     }
 }
@@ -169,12 +165,8 @@ pub(crate) fn count_items(s: &[u8], sort: Sort) -> usize
                     n += 1;
                 }
             }
-            Read::End => {
-                return n;
-            }
-            Read::Malformed => {
-                return n;
-            }
+            Read::End => return n,
+            Read::Malformed => return n,
         }
     }
 }
