@@ -122,7 +122,9 @@ put-call-returns t c =
     let arguments = c .before .before .before .before in
     let function = arguments .before .before .before .before .before .before .before in
     let inside = function .before .before .before .before in
-    call-put _ (inside .inside-of .ensures) (function .put-numbered .ensures) (arguments .put-row .ensures)
+    let a = inside .before .before .before .before .args in
+    call-put _ {s = state (a .room) (a .numbers .now) (a .texts .now)} (inside .inside-of .ensures) (function .put-numbered .ensures)
+    (arguments .put-row .ensures)
 
 -- ---- put_item
 
