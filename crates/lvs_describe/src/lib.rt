@@ -21,7 +21,7 @@ struct Room {
     texts: usize,
 }
 
-// The elements of which a container may hold any number.
+// The elements of which a container may hold any number. Of Parents only the number is asked for: the first one counts.
 enum Sort {
     Node,
     Symbol,
@@ -56,7 +56,8 @@ pub enum Described {
     TooShort,
 }
 
-// Puts the description of `model` over the front of two lists. Where one is too short, both stay. The first time is only counted: nothing is lent.
+// Puts the description of `model` over the front of two lists. Where one is too short, both stay: the first time nothing is lent, and what would be
+// put is only counted.
 pub fn describe(model: &[u8], numbers: &mut [u64], texts: &mut [u8]) -> Described
     ensures { λ r.
         ⌜
