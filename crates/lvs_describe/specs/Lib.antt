@@ -1,0 +1,5 @@
+pub mod Parts
+pub mod Lent
+pub mod Found
+pub mod Sorts
+pub mod Answers
