@@ -43,8 +43,8 @@ class Cycle:
                 self.abbrevs.append(block)
             elif block.startswith("pub ") or self.closing is not None:
                 self.closing = (self.closing or "") + block + "\n"
-            elif " : (t : ℕ) →" in block:
-                self.add_need(block, parts[at + 1])
+            elif " : (t : ℕ) →" in " ".join(block.split()):
+                self.add_need(" ".join(block.split()), parts[at + 1])
 
     def add_need(self, block, answer):
         name, lts, need, claims, rest = re.match(r"(\S+) : \(t : ℕ\) → (\S+)-lts\.Need-(\S+) \((.*)\) (\(\S+-at t\).*)", block, re.S).groups()

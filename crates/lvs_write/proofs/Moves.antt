@@ -234,10 +234,10 @@ module _ {A : Type 0} {take : Lists → Taken A} {ns ts : List ℕ} {s : Cursor}
           record {
             moved = W .moved ∙ rw (O .behind-is, O .before-is, f-there);
             put =
-              λ k l bs rest p q.
-              let same = some-is (sym (O .before-is) ∙ p) in
-              let there : f (O .lists) ≡ some (bs, rest) = ap f (λ i. same i .1) ∙ q in
-              W .put k (O .rest) bs rest (O .behind-is ∙ (λ i. some (same i .0, O .rest))) (sym f-there ∙ there);
+                λ k l bs rest p q.
+                let same = some-is (sym (O .before-is) ∙ p) in
+                let there : f (O .lists) ≡ some (bs, rest) = ap f (λ i. same i .1) ∙ q in
+                W .put k (O .rest) bs rest (O .behind-is ∙ (λ i. some (same i .0, O .rest))) (sym f-there ∙ there);
           }
       go false e = stopped-wrote (not-ok e (r .ok) refl) (nothing e)
 

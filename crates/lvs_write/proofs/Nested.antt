@@ -44,7 +44,6 @@ module _ {g : Lists → Bytes} {ns ts e e′ : List ℕ} (s : Cursor) {m : Curso
   begin q = state-ok ns ts (front s) q
 
   inside : m .ok ≡ true → Inside g ns ts s m
-
   inside p = go (s .ok) refl
     where
       there : stateOf ns ts m ≡ some (capped (m .at), listsAt ns ts (m .number) (m .text))

@@ -154,7 +154,13 @@ pub(crate) fn write_integer(typ: u32, numbers: &[u64], out: &mut [u8], s: Cursor
     moved(next, size)
 }
 
-pub(crate) fn write_text(typ: u32, numbers: &[u64], texts: &[u8], out: &mut [u8], s: Cursor) -> Cursor
+pub(crate) fn write_text(
+    typ: u32,
+    numbers: &[u64],
+    texts: &[u8],
+    out: &mut [u8],
+    s: Cursor,
+) -> Cursor
     ensures { λ r.
         ⌜ Writes (textFrom typ) (now (numbers .entry)) (now (texts .entry)) (now (out .entry)) (now (out .exit)) s r ⌝ }
 {

@@ -34,7 +34,13 @@ use lvs_spec::types::USER_FN_CALL;
 use lvs_spec::types::VALUE_EDGE;
 
 // How many there are, and each.
-pub(crate) fn write_many(part: Part, numbers: &[u64], texts: &[u8], out: &mut [u8], s: Cursor) -> Cursor
+pub(crate) fn write_many(
+    part: Part,
+    numbers: &[u64],
+    texts: &[u8],
+    out: &mut [u8],
+    s: Cursor,
+) -> Cursor
     ensures { λ r.
         ⌜
         Writes (counted (partFrom part)) (now (numbers .entry)) (now (texts .entry)) (now (out .entry)) (now (out .exit)) s r
@@ -67,7 +73,13 @@ fn write_part(part: Part, numbers: &[u64], texts: &[u8], out: &mut [u8], s: Curs
 
 // A container is gone through once to learn how many bytes it holds, and, where there is room for it, once more to write them into their
 // place behind its header.
-fn write_nested(container: Container, numbers: &[u64], texts: &[u8], out: &mut [u8], s: Cursor) -> Cursor
+fn write_nested(
+    container: Container,
+    numbers: &[u64],
+    texts: &[u8],
+    out: &mut [u8],
+    s: Cursor,
+) -> Cursor
     ensures { λ r.
         ⌜ Writes (nestedFrom container) (now (numbers .entry)) (now (texts .entry)) (now (out .entry)) (now (out .exit)) s r ⌝ }
 {
@@ -113,7 +125,13 @@ fn type_of(container: Container) -> u32
     }
 }
 
-fn write_inside(container: Container, numbers: &[u64], texts: &[u8], out: &mut [u8], s: Cursor) -> Cursor
+fn write_inside(
+    container: Container,
+    numbers: &[u64],
+    texts: &[u8],
+    out: &mut [u8],
+    s: Cursor,
+) -> Cursor
     ensures { λ r.
         ⌜ Writes (insideFrom container) (now (numbers .entry)) (now (texts .entry)) (now (out .entry)) (now (out .exit)) s r ⌝ }
 {
@@ -141,8 +159,20 @@ fn write_node(numbers: &[u64], texts: &[u8], out: &mut [u8], s: Cursor) -> Curso
     let id = write_integer(NODE_ID, numbers, out, s);
     let parent = write_parent(numbers, out, id);
     let names = write_many(Part::RuleName, numbers, texts, out, parent);
-    let values = write_many(Part::Nested(Container::ValueEdge), numbers, texts, out, names);
-    let patterns = write_many(Part::Nested(Container::PatternEdge), numbers, texts, out, values);
+    let values = write_many(
+        Part::Nested(Container::ValueEdge),
+        numbers,
+        texts,
+        out,
+        names,
+    );
+    let patterns = write_many(
+        Part::Nested(Container::PatternEdge),
+        numbers,
+        texts,
+        out,
+        values,
+    );
     write_many(Part::Signer, numbers, texts, out, patterns)
 }
 
@@ -172,7 +202,13 @@ fn write_pattern_edge(numbers: &[u64], texts: &[u8], out: &mut [u8], s: Cursor) 
 {
     let to = write_integer(NODE_ID, numbers, out, s);
     let tag = write_integer(TAG, numbers, out, to);
-    write_many(Part::Nested(Container::Constraint), numbers, texts, out, tag)
+    write_many(
+        Part::Nested(Container::Constraint),
+        numbers,
+        texts,
+        out,
+        tag,
+    )
 }
 
 // 0 and a Value, 1 and a Tag, or 2 and a UserFnCall.
@@ -194,7 +230,13 @@ fn write_call(numbers: &[u64], texts: &[u8], out: &mut [u8], s: Cursor) -> Curso
     ensures { λ r. ⌜ Writes (spelled call) (now (numbers .entry)) (now (texts .entry)) (now (out .entry)) (now (out .exit)) s r ⌝ }
 {
     let function = write_text(FN_ID, numbers, texts, out, s);
-    write_many(Part::Nested(Container::Argument), numbers, texts, out, function)
+    write_many(
+        Part::Nested(Container::Argument),
+        numbers,
+        texts,
+        out,
+        function,
+    )
 }
 
 // 0 and a Value, or 1 and a Tag.

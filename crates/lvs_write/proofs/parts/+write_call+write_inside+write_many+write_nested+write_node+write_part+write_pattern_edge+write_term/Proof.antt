@@ -91,7 +91,6 @@ write-many-Inv-loop part numbers texts out₀ s taken left₀ c₀ out left c =
 abbrev write-many-μ-loop : write-many-lts.MeasureT-loop
 write-many-μ-loop part numbers texts out₀ s taken left₀ c₀ out left c = left
 
-
 abbrev write-call-at : ℕ → In 3 write-call-kinds.ps
 write-call-at t =
     and 3 write-call-kinds.ps (is 3 write-call-kinds.ps μ-write-call t) write-call.Pre
@@ -268,8 +267,6 @@ write-term-calls t = (
   stopped-reads.Learnt,
 )
 
-write-inside-write-pattern-edge-requires t c κs = (omega (arith, @pre .0, ap height (@enum-told4 .given .1)), tt)
-
 write-call-write-many-requires : (t : ℕ) → write-call-lts.Need-write-many-requires (write-call-calls t) (write-call-at t) write-call.Post
 write-call-write-many-requires t c κs = (omega (arith, c .before .before .before .before .before .before .before .before .pre .0), tt)
 
@@ -278,6 +275,9 @@ write-call-returns t c = wrote-as parts.call-parts (then-wrote (c .before .befor
 
 write-inside-write-node-requires : (t : ℕ) → write-inside-lts.Need-write-node-requires (write-inside-calls t) (write-inside-at t) write-inside.Post
 write-inside-write-node-requires t c κs = (omega (arith, c .before .before .before .before .before .before .pre .0, ap height (c .before .enum-told .given .1)), tt)
+
+write-inside-write-pattern-edge-requires : (t : ℕ) → write-inside-lts.Need-write-pattern-edge-requires (write-inside-calls t) (write-inside-at t) write-inside.Post
+write-inside-write-pattern-edge-requires t c κs = (omega (arith, c .before .before .before .before .before .before .pre .0, ap height (c .before .enum-told4 .given .1)), tt)
 
 write-inside-write-many-requires : (t : ℕ) → write-inside-lts.Need-write-many-requires (write-inside-calls t) (write-inside-at t) write-inside.Post
 write-inside-write-many-requires t c κs = (omega (arith, c .before .before .before .before .before .before .pre .0, ap height (c .before .enum-told5 .given .1)), tt)
@@ -467,8 +467,8 @@ pub +write-call+write-inside+write-many+write-nested+write-node+write-part+write
     (write-many-returns-2 t))
     (λ t. write-nested-lts.spec (write-nested-calls t) (write-nested-at t)
     write-nested.Post
-    (write-nested-slice-relend-prefix-write-inside t)
-    (write-nested-slice-aggregate-write-inside t)
+    (λ c. search needs)
+    (λ c. search needs)
     (write-nested-write-inside-requires t)
     (λ c. search needs)
     (λ c. search needs)
@@ -516,8 +516,8 @@ pub +write-call+write-inside+write-many+write-nested+write-node+write-part+write
     (write-part-returns-4 t))
     (λ t. write-pattern-edge-lts.spec (write-pattern-edge-calls t) (write-pattern-edge-at t)
     write-pattern-edge.Post
-    (write-pattern-edge-write-integer-requires t)
-    (write-pattern-edge-write-integer-requires-2 t)
+    (λ c κs. search needs)
+    (λ c κs. search needs)
     (write-pattern-edge-write-many-requires t)
     (λ c. search needs)
     (write-pattern-edge-returns t))

@@ -1,0 +1,34 @@
+-- Each case of an answer's enum, with the numbers and values of docs/format.md; and what the writing call's own function promises.
+use Prim.Native.Nat.{ℕ, _≤_}
+use mathlib.Core.Path.{_≡_}
+use mathlib.Core.List.{List}
+use mathlib.Core.Option.{some}
+use lib.ListN.{length}
+use Rattle.lvs_spec.specs.Limits.{maxModelBytes}
+use Rattle.lvs_spec.specs.Model.{Model}
+use Rattle.lvs_spec.specs.Verdict.{Verdict, verdict}
+use Rattle.lvs_description.specs.Description.{modelBytes, descriptionOf}
+use Rattle.lvs_description.specs.Answers.{WriteAnswer as Writing, DescribeAnswer as Describing}
+use Rattle.lvs_codec.specs.declared.WriteAnswer.{WriteAnswer}
+use Rattle.lvs_codec.specs.declared.WriteAnswer.the-variants as writings
+use Rattle.lvs_codec.specs.declared.DescribeAnswer.{DescribeAnswer}
+use Rattle.lvs_codec.specs.declared.DescribeAnswer.the-variants as describings
+
+abbrev pub writeAnswerOf : WriteAnswer → Writing
+writeAnswerOf (writings.Written n) = Writing.written n
+writeAnswerOf (writings.Refused r i) = Writing.refused (record { number = r; node = i })
+
+abbrev pub describeAnswerOf : DescribeAnswer → Describing
+describeAnswerOf (describings.Described n t) = Describing.described n t
+describeAnswerOf (describings.Refused r i) = Describing.refused (record { number = r; node = i })
+
+-- the two lists describe a model of `size` bytes, which is not too long
+pub record Sized (ns ts : List ℕ) (size : ℕ) : Type 0 where
+  pub model : Model
+  pub is : descriptionOf ns ts ≡ some model
+  pub size-is : size ≡ length (modelBytes model)
+  pub small : size ≤ maxModelBytes
+
+-- v is the verdict on the bytes of the description
+pub record Judges (ns ts : List ℕ) (v : Verdict) : Type 0 where
+  pub is : (m : Model) → descriptionOf ns ts ≡ some m → v ≡ verdict (modelBytes m)
