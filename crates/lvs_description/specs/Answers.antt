@@ -6,7 +6,7 @@ use mathlib.Core.Option.{Option, none, some}
 use lib.Dec.{leb}
 use lib.ListN.{length, drop}
 use Rattle.lvs_spec.specs.Model.{Model, modelOf}
-use Rattle.lvs_spec.specs.Verdict.{Verdict, accepted, refused, verdict}
+use Rattle.lvs_spec.specs.Verdict.{Verdict, verdict}
 use Rattle.lvs_spec.specs.Answers.{Refusal, plain}
 use Rattle.lvs_description.specs.Description.{modelBytes, descriptionOf, numbersOf, textsOf}
 
@@ -47,7 +47,7 @@ writtenTo bs before =
 -- what reading the bytes would refuse is refused with the same two numbers
 unfoldable pub writtenAs : Verdict → List ℕ → List ℕ → WriteOutcome
 writtenAs (Verdict.refused r i) bs before = writeRefused (record { number = r; node = i }) before
-writtenAs (accepted n) bs before = writtenTo bs before
+writtenAs (Verdict.accepted n) bs before = writtenTo bs before
 
 unfoldable pub writtenFrom : Option Model → List ℕ → WriteOutcome
 writtenFrom none before = writeRefused (plain noDescription) before
@@ -86,7 +86,7 @@ describedTo m ns ts =
 
 unfoldable pub describedAs : Verdict → Model → List ℕ → List ℕ → DescribeOutcome
 describedAs (Verdict.refused r i) m ns ts = describeRefused (record { number = r; node = i }) ns ts
-describedAs (accepted n) m ns ts = describedTo m ns ts
+describedAs (Verdict.accepted n) m ns ts = describedTo m ns ts
 
 -- a model's description, in two lent lists
 unfoldable pub describeOutcome : List ℕ → List ℕ → List ℕ → DescribeOutcome
