@@ -3,8 +3,8 @@
 
 PART is a file with the imports, the measures (`μ-f κs a = ..`), the invariants and measures of loops (`f-Inv-loop .. = ..`), names for
 places, and an answer, `f-need t c = ..`, for each need that `search needs` does not close; no signature is written for these. `@thing` in
-an answer becomes the path to the thing (paths.py), after `rt goals NAME`. This takes the rest from what `rt dev NAME` prints for the cycle, of which no
-proof file may stand: what is assumed of each call under one name, `f-calls`, and the closing, with `search needs` inline for every other need.
+an answer becomes the path to the thing (paths.py), after `rt goals NAME`. This takes the rest from what `rt dev NAME` prints for the cycle,
+so an older proof file is removed first: what is assumed of each call under one name, `f-calls`, and the closing, with `search needs` inline for every other need.
 """
 import pathlib
 import re
@@ -75,6 +75,8 @@ def closing(cycle, said):
 def main():
     crate, part = sys.argv[1], pathlib.Path(sys.argv[2]).read_text(encoding="utf-8")
     root = pathlib.Path.cwd()
+    for old in (root / "crates" / crate / "proofs").rglob("+*/Proof.antt"):
+        old.unlink()
     path, text = next((path, text) for path, text in skeletons(crate).items() if "/+" in path)
     cycle, said = Cycle(text), {}
     own, answers = [], []
