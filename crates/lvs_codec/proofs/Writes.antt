@@ -1,11 +1,11 @@
 -- The writing call's outcome, from what its callees answered and wrote. Assumes nothing.
-use Prim.Native.Nat.{ℕ, suc, _+_, _≤_, _<_, min}
+use Prim.Native.Nat.{ℕ, _+_, _≤_, _<_}
 use native.Mathlib.Omega.{arith}
-use mathlib.Core.Path.{_≡_, refl, sym, ap, _∙_, subst}
+use mathlib.Core.Path.{_≡_, refl, sym, ap, _∙_}
 use mathlib.Core.List.{List, [], _++_, append-nil}
 use mathlib.Core.Option.{Option, none, some}
 use borrow.Author.Tests.{lt-ltb}
-use lib.ListN.{length, take, drop, length-append, length-take, length-drop, drop-of-length-le}
+use lib.ListN.{length, take, drop, length-append, drop-of-length-le}
 use lib.Seq.{sets-eq, take-at, length-take-le}
 use Rattle.tlv_writer.specs.Stored.{Stored}
 use Rattle.lvs_spec.specs.Limits.{maxModelBytes}

@@ -5,7 +5,7 @@ use native.Mathlib.Omega.{arith}
 use mathlib.Core.Path.{_≡_, refl, sym, ap, _∙_, subst}
 use mathlib.Core.Logic.{_⊎_, inl, inr}
 use mathlib.Core.Bool.{Bool, true, false, _&&_}
-use mathlib.Core.List.{List}
+use mathlib.Core.List.{List, List·Memᴰ, List·Memᴰ·head, List·Memᴰ·tail, Memᴰ·append-left, Memᴰ·append-right}
 use mathlib.Core.Option.{Option, none, some}
 use borrow.Author.Tests.{leb-true, leb-false, le-leb, lt-leb}
 use lib.Dec.{leb}
@@ -15,13 +15,15 @@ use Rattle.tlv.specs.Bytes.{Bytes}
 use Rattle.lvs_spec.specs.Model.{Model, modelOf}
 use Rattle.lvs_spec.specs.Verdict.{Verdict, accepted, describes, reading, verdict}
 use Rattle.lvs_spec.specs.Answers.{Refusal, plain}
-use Rattle.lvs_spec.specs.Demands.{Alike}
+use Rattle.lvs_spec.specs.Demands.{modelRefusals, Alike}
+use Rattle.lvs_spec.proofs.Refusals.{verdict-number}
 use Rattle.lvs_spec.proofs.Lists.{clash}
 use Rattle.lvs_description.specs.Description.{modelBytes, descriptionOf, numbersOf, textsOf}
 use Rattle.lvs_description.specs.Answers.{noDescription, shortOutput, onFront}
 use Rattle.lvs_description.specs.Answers.{WriteAnswer, WriteOutcome, written, writeRefused, writtenTo, writtenAs, writtenFrom, writeOutcome}
 use Rattle.lvs_description.specs.Answers.{DescribeAnswer, DescribeOutcome, described, describeRefused, describedTo, describedAs, describeOutcome}
 use Rattle.lvs_description.proofs.Written.{accepted-reading}
+use Rattle.lvs_description.proofs.Refusals.{bytesRefusals, writeRefusals, describeRefusals, bytes-number}
 use Rattle.lvs_description.proofs.Theorem as theorem
 
 -- ---- writing
@@ -115,6 +117,16 @@ module _ {ns ts before : List ℕ} where
   why-in (short-output e v l) h d = inr (cc)
   why-in (on-output e v l) h d = clash (cc)
 
+  number-in : {o : WriteOutcome} {x : Refusal} → Writing ns ts before o → o .answer ≡ WriteAnswer.refused x → List·Memᴰ (x .number) writeRefusals
+  number-in {x = x} (no-description e) h = let q : x .number ≡ noDescription = cc in List·Memᴰ·head q
+  number-in {x = x} (refused-bytes {m} {r} e v) h =
+      let q : r ≡ x .number = cc in
+      List·Memᴰ·tail (Memᴰ·append-left _ (subst (λ (k : ℕ). List·Memᴰ k bytesRefusals) q (bytes-number m v)))
+  number-in {x = x} (short-output e v l) h =
+      let q : x .number ≡ shortOutput = cc in
+      List·Memᴰ·tail (Memᴰ·append-right bytesRefusals (List·Memᴰ·head q))
+  number-in (on-output e v l) h = clash (cc)
+
 module _ (ns ts before : List ℕ) where
   pub written-by : {n : ℕ} → writeOutcome ns ts before .answer ≡ written n → WrittenBy ns ts before n (writeOutcome ns ts before .output)
   written-by h = written-in (writing ns ts before) h
@@ -127,6 +139,10 @@ module _ (ns ts before : List ℕ) where
   pub write-why : {x : Refusal} {m : Model} → writeOutcome ns ts before .answer ≡ WriteAnswer.refused x → descriptionOf ns ts ≡ some m
       → (verdict (modelBytes m) ≡ Verdict.refused (x .number) (x .node)) ⊎ (x ≡ plain shortOutput)
   write-why h d = why-in (writing ns ts before) h d
+
+  -- the numbers of the refusals
+  pub write-number : {x : Refusal} → writeOutcome ns ts before .answer ≡ WriteAnswer.refused x → List·Memᴰ (x .number) writeRefusals
+  write-number h = number-in (writing ns ts before) h
 
 -- ---- describing
 
@@ -231,6 +247,16 @@ module _ {b ns ts : List ℕ} where
   lists-kept-in (short-lists v r) h = (refl, refl)
   lists-kept-in (on-lists v r) h = clash (cc)
 
+  list-number-in : {o : DescribeOutcome} {x : Refusal} → Describing b ns ts o → o .answer ≡ DescribeAnswer.refused x
+      → List·Memᴰ (x .number) describeRefusals
+  list-number-in {x = x} (refused-model {r} v) h =
+      let q : r ≡ x .number = cc in
+      Memᴰ·append-left _ (subst (λ (k : ℕ). List·Memᴰ k modelRefusals) q (verdict-number b v))
+  list-number-in {x = x} (short-lists v r) h =
+      let q : x .number ≡ noDescription = cc in
+      Memᴰ·append-right modelRefusals (List·Memᴰ·head q)
+  list-number-in (on-lists v r) h = clash (cc)
+
 module _ (b ns ts : List ℕ) where
   pub described-by : {n t : ℕ} → describeOutcome b ns ts .answer ≡ described n t
       → DescribedBy b ns ts n t (describeOutcome b ns ts .numbers) (describeOutcome b ns ts .texts)
@@ -240,6 +266,10 @@ module _ (b ns ts : List ℕ) where
   pub describe-keeps : {x : Refusal} → describeOutcome b ns ts .answer ≡ DescribeAnswer.refused x
       → (describeOutcome b ns ts .numbers ≡ ns) × (describeOutcome b ns ts .texts ≡ ts)
   describe-keeps h = lists-kept-in (describing b ns ts) h
+
+  -- the numbers of the refusals
+  pub describe-number : {x : Refusal} → describeOutcome b ns ts .answer ≡ DescribeAnswer.refused x → List·Memᴰ (x .number) describeRefusals
+  describe-number h = list-number-in (describing b ns ts) h
 
 -- ---- what was written is read
 
@@ -316,6 +346,17 @@ module _ {b ns ts numbers texts before after : List ℕ} {n t k : ℕ} (by : Byt
 
   pub rewritten-alike : Alike (take k after) b
   rewritten-alike = theorem.reading-alike (take k after) b rewritten-reads
+
+  -- and is described alike
+  pub rewritten-described : (ns′ ts′ : List ℕ) → describeOutcome (take k after) ns′ ts′ ≡ describeOutcome b ns′ ts′
+  unfolding describeOutcome
+  rewritten-described ns′ ts′ =
+      let v : verdict (take k after) ≡ accepted (d .count) = rewritten-alike .verdicts ∙ d .accepted-is in
+      let r = accepted-reading (take k after) (d .count) v in
+      let q = accepted-reading b (d .count) (d .accepted-is) in
+      let x : describes (modelOf (take k after)) ≡ describes (modelOf b) = sym r ∙ rewritten-reads ∙ q in
+      let y : modelOf (take k after) ≡ modelOf b = cc in
+      λ i. describedAs (rewritten-alike .verdicts i) (y i) ns′ ts′
 
 -- Models with the same lists have the same reading, and are alike.
 pub described-one : {a b ns ts ns′ ts′ numbers texts numbers′ texts′ : List ℕ} {n t n′ t′ : ℕ} → DescribedBy a ns ts n t numbers texts

@@ -17,7 +17,9 @@ array-share-prefix-space : tie.Need-array-share-prefix-space
 array-share-prefix-space c = let w = c .before in front-fits (start w .pre) (w .write-description .ensures) (length-take-le _ _ (start w .pre .small)) _
 
 slice-aggregate-judge-model : tie.Need-slice-aggregate-judge-model
-slice-aggregate-judge-model c = let w = c .before .before in front-length (start w .pre) (w .write-description .ensures) (length-take-le _ _ (start w .pre .small)) _
+slice-aggregate-judge-model c =
+    let w = c .before .before in
+    front-length (start w .pre) (w .write-description .ensures) (length-take-le _ _ (start w .pre .small)) _
 
 returns : tie.Need-returns
 returns c =
