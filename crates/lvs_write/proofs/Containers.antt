@@ -76,25 +76,28 @@ pub node-parts : Same (λ l. after (spelled (integer type.NodeId) l) (λ l. afte
     (λ l. after (counted (partFrom (Part.Nested Container.ValueEdge)) l) (λ l. after (counted (partFrom (Part.Nested Container.PatternEdge)) l) (counted (partFrom Part.Signer)))))))
     (spelled node)
 node-parts l =
-    both-parts _ _ (as-it-is _)
-    (both-parts _ _ (as-it-is _)
-    (both-parts _ _ (many-of _ rule-name-part)
-    (both-parts _ _ (many-of _ value-edge-part) (both-parts _ _ (many-of _ pattern-edge-part) (many-of _ signer-part))))) l ∙
-    under-spelled _ _ _ (λ a. refl) l
+    both-parts (integer type.NodeId) _ (as-it-is _)
+    (both-parts (maybe (integer type.Parent)) _ (as-it-is _)
+    (both-parts (many (text type.Identifier (marked 35))) _ (many-of _ rule-name-part)
+    (both-parts (many (within type.ValueEdge valueEdge)) _ (many-of _ value-edge-part)
+    (both-parts (many (within type.PatternEdge patternEdge)) (many (integer type.SignConstraint)) (many-of _ pattern-edge-part) (many-of _ signer-part))))) l ∙
+    under-spelled _ (λ n. (n .id, (n .parent, (n .ruleNames, (n .valueEdges, (n .patternEdges, n .signers)))))) _ (λ a. refl) l
 
 pub symbol-parts : Same (λ l. after (spelled (integer type.Tag) l) (textFrom type.Identifier)) (spelled symbol)
-symbol-parts l = both-parts _ _ (as-it-is _) (text-any type.Identifier identifier) l ∙ under-spelled _ _ _ (λ a. refl) l
+symbol-parts l = both-parts (integer type.Tag) (text type.Identifier identifier) (as-it-is _) (text-any type.Identifier identifier) l ∙ under-spelled _ (λ s. (s .tag, s .identifier)) _ (λ a. refl) l
 
 pub value-edge-parts : Same (λ l. after (spelled (integer type.NodeId) l) (spelled (component type.Value))) (spelled valueEdge)
-value-edge-parts l = both-parts _ _ (as-it-is _) (as-it-is _) l ∙ under-spelled _ _ _ (λ a. refl) l
+value-edge-parts l = both-parts (integer type.NodeId) (component type.Value) (as-it-is _) (as-it-is _) l ∙ under-spelled _ (λ e. (e .destination, e .value)) _ (λ a. refl) l
 
 pub pattern-edge-parts : Same (λ l. after (spelled (integer type.NodeId) l) (λ l. after (spelled (integer type.Tag) l) (counted (partFrom (Part.Nested Container.Constraint)))))
     (spelled patternEdge)
 pattern-edge-parts l =
-    both-parts _ _ (as-it-is _) (both-parts _ _ (as-it-is _) (many-of _ constraint-part)) l ∙ under-spelled _ _ _ (λ a. refl) l
+    both-parts (integer type.NodeId) _ (as-it-is _)
+    (both-parts (integer type.Tag) (many (within type.Constraint constraint)) (as-it-is _) (many-of _ constraint-part)) l ∙
+    under-spelled _ (λ e. (e .destination, (e .tag, e .constraints))) _ (λ a. refl) l
 
 pub call-parts : Same (λ l. after (textFrom type.FnId l) (counted (partFrom (Part.Nested Container.Argument)))) (spelled call)
-call-parts l = both-parts _ _ (text-any type.FnId (marked 36)) (many-of _ argument-part) l ∙ under-spelled _ _ _ (λ a. refl) l
+call-parts l = both-parts (text type.FnId (marked 36)) (many (within type.UserFnArg argument)) (text-any type.FnId (marked 36)) (many-of _ argument-part) l ∙ under-spelled _ (λ c. (c .function, c .arguments)) _ (λ a. refl) l
 
 pub constraint-parts : Same (counted (partFrom (Part.Nested Container.ConstraintOption))) (spelled constraint)
 constraint-parts = many-of _ option-part
@@ -107,9 +110,11 @@ pub model-parts : Same (λ l. after (versionFrom l) (λ l. after (spelled (integ
     (spelled model)
 model-parts l =
     after-same (as-it-is versionFrom)
-    (both-parts _ _ (as-it-is _) (both-parts _ _ (as-it-is _) (both-parts _ _ (many-of _ node-part) (many-of _ symbol-part)))) l ∙
+    (both-parts (integer type.NodeId) _ (as-it-is _)
+    (both-parts (integer type.NamedPatternCnt) _ (as-it-is _)
+    (both-parts (many (within type.Node node)) (many (within type.TagSymbol symbol)) (many-of _ node-part) (many-of _ symbol-part)))) l ∙
     behind-spelled _ l ∙
-    under-spelled _ _ _ (λ a. refl) l
+    under-spelled _ (λ m. (m .start, (m .patternCount, (m .nodes, m .symbols)))) _ (λ a. refl) l
 
 -- ---- what a number chooses
 
@@ -320,6 +325,6 @@ pub nested-written : (c : Container) → Same (nestedFrom c) (partFrom (Part.Nes
 unfolding partFrom
 nested-written c l = refl
 
-pub nested-is : (c : Container) → Same (λ l. wrapped (typeOf c) (insideFrom c l)) (nestedFrom c)
+pub nested-as : {t : ℕ} (c : Container) → t ≡ typeOf c → Same (λ l. wrapped t (insideFrom c l)) (nestedFrom c)
 unfolding nestedFrom
-nested-is c l = refl
+nested-as c e l = ap (λ (k : ℕ). wrapped k (insideFrom c l)) e

@@ -145,12 +145,17 @@ module _ {g : Lists → Bytes} {ns ts e e′ : List ℕ} (s : Cursor) {m : Curso
         subst (Stored b (putMid start (end - start) b₁ y) (s .at)) head (stored-both H behind (sym start-is)))
 
 -- nothing was written into a part of no bytes
-pub untouched : (b y : List ℕ) → length y ≡ length (take 0 (drop 0 b)) → putMid 0 0 b y ≡ b
-untouched b y e =
-    let none-there : length (take 0 (drop 0 b)) ≡ 0 = simp length-take (omega arith) in
-    let y-is : y ≡ [] = nil y (e ∙ none-there) in
-    (λ i. take-at [] b 0 refl i ++ (y-is i ++ drop-drop 0 0 b i)) ∙ drop-at [] b 0 refl
+pub untouched : (b y : List ℕ) → length y ≡ 0 → putMid 0 0 b y ≡ b
+untouched b y e = (λ i. take-at [] b 0 refl i ++ (nil y e i ++ drop-drop 0 0 b i)) ∙ drop-at [] b 0 refl
   where
     nil : (l : List ℕ) → length l ≡ 0 → l ≡ []
     nil [] p = refl
     nil (x ∷ l) p = absurd (omega arith)
+
+-- the list as it was before
+pub from-start : {f : Lists → Bytes} {ns ts b b₀ now : List ℕ} {s r : Cursor} → b ≡ b₀ → Writes f ns ts b now s r → Writes f ns ts b₀ now s r
+from-start {f} {ns} {ts} {b} {b₀} {now} {s} {r} e W = subst (λ (x : List ℕ). Writes f ns ts x now s r) e W
+
+-- the place behind an element, whose inside ends at m
+abbrev pub placed : Cursor → ℕ → Cursor
+placed m k = record { ok = true; number = m .number; text = m .text; at = k }

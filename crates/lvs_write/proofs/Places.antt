@@ -98,12 +98,12 @@ module _ (n : ℕ) where
 -- ---- an element in its place
 
 module _ (t at n : ℕ) {size : ℕ} (size-is : size ≡ elementSize t n) where
-  pub header-fits : (b : List ℕ) {r : Bool} → r ≡ leb (at + size) (length b) → r ≡ true → at + length (headerBytes t n) ≤ length b
-  header-fits b e f = let h : at + size ≤ length b = leb-true _ _ (sym e ∙ f) in omega (arith, element-room t n)
+  pub header-fits : (len : ℕ) {r : Bool} → r ≡ leb (at + size) len → r ≡ true → at + length (headerBytes t n) ≤ len
+  header-fits len e f = let h : at + size ≤ len = leb-true _ _ (sym e ∙ f) in omega (arith, element-room t n)
 
-  pub inside-fits : (b b₁ : List ℕ) {r : Bool} {start : ℕ} → r ≡ leb (at + size) (length b) → r ≡ true
+  pub inside-fits : {b b₁ : List ℕ} {r : Bool} {start : ℕ} → r ≡ leb (at + size) (length b) → r ≡ true
       → (start ≡ at + length (headerBytes t n)) × Stored b b₁ at (headerBytes t n) → start + n ≤ length b₁
-  inside-fits b b₁ e f H =
+  inside-fits {b} e f H =
       let h : at + size ≤ length b = leb-true _ _ (sym e ∙ f) in
       omega (arith, element-room t n, H .0, stored-length (H .1))
 
@@ -136,10 +136,10 @@ unfolding elementSize
 component-small c src e h = omega (arith, number-most c, number-most (length src))
 
 pub component-stored : (t c at n : ℕ) {size : ℕ} {src b₁ b₂ : List ℕ} {start k : ℕ} {r : Bool} → n ≡ elementSize c (length src) → size ≡ elementSize t n
-    → (b : List ℕ) → r ≡ leb (at + size) (length b) → r ≡ true → (start ≡ at + length (headerBytes t n)) × Stored b b₁ at (headerBytes t n)
+    → {b : List ℕ} → r ≡ leb (at + size) (length b) → r ≡ true → (start ≡ at + length (headerBytes t n)) × Stored b b₁ at (headerBytes t n)
     → Puts b₁ b₂ start c src k → Puts b b₂ at t (el c src) size
-component-stored t c at n {size} {src} {b₁} {b₂} {start} n-is size-is b e f H P =
-    let fits = inside-fits t at n size-is b b₁ e f H in
+component-stored t c at n {size} {src} {b₁} {b₂} {start} n-is size-is e f H P =
+    let fits = inside-fits t at n size-is e f H in
     let long = component-size c src n-is in
     puts-all t at n size-is long H (P .put (omega (arith, P .size-is)))
 

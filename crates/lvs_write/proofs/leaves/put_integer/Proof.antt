@@ -9,12 +9,12 @@ element-size-requires : tie.Need-element-size-requires
 element-size-requires c κs = omega (arith, width-most _ (c .integer-width .ensures))
 
 put-header-requires : tie.Need-put-header-requires
-put-header-requires c κs = header-fits _ _ _ (c .before .before .before .element-size .ensures) (c .before .before .before .before .before .before .args .out .now) (c .before .before .has-room .ensures) (c .before .if1 .taken)
+put-header-requires c κs = header-fits _ _ _ (c .before .before .before .element-size .ensures) _ (c .before .before .has-room .ensures) (c .before .if1 .taken)
 
 put-digits-requires : tie.Need-put-digits-requires
 put-digits-requires c κs =
     width-digits _ (c .before .before .before .before .before .before .before .before .integer-width .ensures) (search needs)
-    (inside-fits _ _ _ (c .before .before .before .before .before .before .before .element-size .ensures) (c .before .before .before .before .before .before .before .before .before .before .args .out .now) _ (c .before .before .before .before .before .before .has-room .ensures) (c .before .before .before .before .before .if1 .taken) (c .before .before .before .put-header .ensures))
+    (inside-fits _ _ _ (c .before .before .before .before .before .before .before .element-size .ensures) (c .before .before .before .before .before .before .has-room .ensures) (c .before .before .before .before .before .if1 .taken) (c .before .before .before .put-header .ensures))
 
 returns : tie.Need-returns
 returns c =

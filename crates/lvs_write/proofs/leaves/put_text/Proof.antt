@@ -7,10 +7,10 @@ use Rattle.lvs_write.proofs.leaves.put_text.Statement.{statement}
 use Rattle.lvs_write.proofs.leaves.put_text.Tie as tie
 
 put-header-requires : tie.Need-put-header-requires
-put-header-requires c κs = header-fits _ _ _ (c .before .before .before .element-size .ensures) (c .before .before .before .before .before .before .args .out .now) (c .before .before .has-room .ensures) (c .before .if1 .taken)
+put-header-requires c κs = header-fits _ _ _ (c .before .before .before .element-size .ensures) _ (c .before .before .has-room .ensures) (c .before .if1 .taken)
 
 put-bytes-requires : tie.Need-put-bytes-requires
-put-bytes-requires c κs = inside-fits _ _ _ (c .before .before .before .before .before .before .before .element-size .ensures) (c .before .before .before .before .before .before .before .before .before .before .args .out .now) _ (c .before .before .before .before .before .before .has-room .ensures) (c .before .before .before .before .before .if1 .taken) (c .before .before .before .put-header .ensures)
+put-bytes-requires c κs = inside-fits _ _ _ (c .before .before .before .before .before .before .before .element-size .ensures) (c .before .before .before .before .before .before .has-room .ensures) (c .before .before .before .before .before .if1 .taken) (c .before .before .before .put-header .ensures)
 
 returns : tie.Need-returns
 returns c = puts-all _ _ _ (c .before .before .before .before .before .before .before .before .before .before .element-size .ensures) refl (c .before .before .before .before .before .before .put-header .ensures) (c .before .before .put-bytes .ensures)
