@@ -8,7 +8,7 @@ use lib.ListN.{length, length-map}
 use Rattle.lvs_spec.specs.Types as type
 use Rattle.lvs_spec.specs.Leaves.{identifier, marked}
 use Rattle.lvs_spec.specs.Model.{Argument, Term}
-use Rattle.lvs_description.specs.Format.{Lists, put, putText, Format, integer, text, component, _then_, under, ontoAll, many, ontoMaybe, maybe, within}
+use Rattle.lvs_description.specs.Format.{Lists, put, putText, Format, integer, text, component, under, ontoAll, many, ontoMaybe, maybe, within}
 use Rattle.lvs_description.specs.Description.{argument, call, term, option, constraint, valueEdge, patternEdge, node, symbol}
 use Rattle.lvs_describe.specs.Parts.{nothing, joined, joinedAll, shown, row}
 

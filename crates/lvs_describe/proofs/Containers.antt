@@ -11,7 +11,7 @@ use Rattle.tlv.specs.declared.Part.{Part}
 use Rattle.lvs_spec.specs.Types as type
 use Rattle.lvs_spec.specs.Leaves.{marked}
 use Rattle.lvs_spec.specs.Model.{componentOf, argumentOf, callOf, valueEdgeOf, patternEdgeOf, nodeOf, symbolOf, modelOf}
-use Rattle.lvs_description.specs.Format.{Lists, put, putText, Format, integer, text, component, _then_, maybe, many}
+use Rattle.lvs_description.specs.Format.{Lists, put, putText, Format, integer, text, component, maybe, many}
 use Rattle.lvs_description.specs.Description.{argument, call, valueEdge, patternEdge, node, symbol, listsOf}
 use Rattle.lvs_describe.specs.Parts.{nothing, number, shown}
 use Rattle.lvs_describe.specs.Lent.{State, Describes}

@@ -1,14 +1,14 @@
 -- From one place of the lists to another: what is taken off them, and what is written of it, one part behind the other. Assumes nothing.
 use mathlib.Core.Path.{_≡_, refl, sym, ap, subst, _∙_}
-use mathlib.Core.Bool.{Bool, true, false, cond}
-use mathlib.Core.List.{List, [], _∷_, _++_}
+use mathlib.Core.Bool.{Bool, true, false}
+use mathlib.Core.List.{List, [], _++_}
 use mathlib.Core.Option.{Option, none, some}
 use Prim.Native.Nat.{ℕ, _+_, _≤_}
 use native.Mathlib.Omega.{arith}
 use lib.ListN.{length, length-append}
 use Rattle.tlv.specs.Lists.{bind}
 use Rattle.tlv_writer.specs.Stored.{Stored}
-use Rattle.tlv_writer.proofs.Stores.{stored-both, stored-length}
+use Rattle.tlv_writer.proofs.Stores.{stored-both}
 use Rattle.lvs_description.specs.Format.{Lists, Taken}
 use Rattle.lvs_write.specs.declared.Cursor.{Cursor}
 use Rattle.lvs_write.specs.Spelled.{Bytes, after}

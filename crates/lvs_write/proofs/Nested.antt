@@ -3,12 +3,12 @@ use mathlib.Core.Path.{_≡_, refl, sym, ap, subst, _∙_}
 use mathlib.Core.Bool.{Bool, true, false}
 use mathlib.Core.List.{List, [], _∷_, _++_}
 use mathlib.Core.Option.{Option, none, some}
-use Prim.Native.Nat.{ℕ, zero, suc, _+_, _-_, _≤_, _<_}
+use Prim.Native.Nat.{ℕ, _+_, _-_, _≤_, _<_}
 use native.Mathlib.Omega.{arith}
 use borrow.Author.Tests.{leb-true, leb-false}
 use borrow.Rule.Slice.PartMut.{putMid}
 use lib.Dec.{leb}
-use lib.ListN.{length, take, drop, length-take, length-drop}
+use lib.ListN.{length, take, drop, length-drop}
 use lib.Seq.{length-take-le, take-at, drop-at, drop-drop}
 use Rattle.tlv_writer.specs.Stored.{Stored}
 use Rattle.tlv_writer.proofs.Stores.{stored-both, stored-length, stored-inside}
@@ -16,7 +16,7 @@ use Rattle.lvs_description.specs.Format.{Lists}
 use Rattle.lvs_write.specs.declared.Cursor.{Cursor}
 use Rattle.lvs_write.specs.Spelled.{Bytes, wrapped}
 use Rattle.lvs_write.specs.Steps.{capped, elementSize, headerBytes, listsAt, stateOf, movedBy, Writes}
-use Rattle.lvs_write.proofs.Sizes.{el, capped-low, capped-is, capped-add, capped-capped, capped-element, header-then, header-length, element-length, element-room}
+use Rattle.lvs_write.proofs.Sizes.{el, capped-low, capped-is, capped-add, capped-capped, capped-element, header-then, element-length, element-room}
 use Rattle.lvs_write.proofs.Moves.{apart, state-ok, state-not, moved-none, moved-some, stopped-wrote, one-wrote}
 
 -- the same place, where nothing has been written yet

@@ -1,27 +1,27 @@
 -- Elements that hold plain bytes: their sizes, their places, and what was taken off the lists for them. Assumes nothing.
 use mathlib.Core.Path.{_≡_, refl, sym, ap, subst, _∙_}
 use mathlib.Core.Bool.{Bool, true, false, cond}
-use mathlib.Core.List.{List, [], _∷_, _++_}
+use mathlib.Core.List.{List, _∷_, _++_}
 use mathlib.Core.Option.{Option, none, some}
-use Prim.Native.Nat.{ℕ, zero, suc, _+_, _-_, _^_, _≤_, _<_, min}
+use Prim.Native.Nat.{ℕ, _+_, _-_, _^_, _≤_, _<_, min}
 use native.Mathlib.Numerals.{add-one}
 use native.Mathlib.Omega.{arith}
 use borrow.Author.Tests.{lt-ltb, le-ltb, le-leb, lt-leb, leb-true, leb-false, ltb-true}
 use lib.Dec.{leb, ltb, lit≤}
 use lib.ListN.{length, take, drop, getD, length-drop, drop-of-length-le}
 use lib.Seq.{drop-cons, drop-drop}
-use Rattle.tlv.specs.Lists.{bind, guard}
+use Rattle.tlv.specs.Lists.{bind}
 use Rattle.tlv.specs.Bytes.{bigEndianBytes}
 use Rattle.tlv.specs.Number.{numberBytes, integerSize}
 use Rattle.tlv.proofs.Bytes.{length-spelled}
 use Rattle.tlv_writer.proofs.Numbers.{number-most}
 use Rattle.tlv_writer.specs.Stored.{Stored, Digits}
 use Rattle.tlv_writer.proofs.Stores.{stored-both, stored-length}
-use Rattle.lvs_description.specs.Format.{Lists, Taken, headOf, takeNumber, bytesOf, takeText, takeComponent, integerWidth, integerBytes}
+use Rattle.lvs_description.specs.Format.{Lists, Taken, bytesOf, takeText, takeComponent, integerWidth, integerBytes}
 use Rattle.lvs_write.specs.declared.Cursor.{Cursor}
-use Rattle.lvs_write.specs.Steps.{capped, elementSize, headerBytes, listsAt, stateOf, takenBy, Took, TookNumber, TookText, Puts}
+use Rattle.lvs_write.specs.Steps.{capped, elementSize, headerBytes, stateOf, takenBy, Took, TookNumber, TookText, Puts}
 use Rattle.lvs_write.proofs.Sizes.{el, header-then, header-length, element-length, element-room}
-use Rattle.lvs_write.proofs.Moves.{apart, state-ok, state-not, TookOk, took-ok, took-none}
+use Rattle.lvs_write.proofs.Moves.{apart, state-ok, state-not, took-ok, took-none}
 
 -- ---- sizes
 

@@ -3,12 +3,11 @@ use mathlib.Core.Path.{_≡_, refl, sym, ap, subst, _∙_}
 use mathlib.Core.Bool.{Bool, true, false}
 use mathlib.Core.List.{List, [], _∷_}
 use mathlib.Core.Option.{Option, none, some}
-use Prim.Native.Nat.{ℕ, zero, suc, _+_, _-_, _≤_, _<_}
+use Prim.Native.Nat.{ℕ, _+_, _-_, _≤_, _<_}
 use native.Mathlib.Omega.{arith}
-use borrow.Author.Tests.{leb-true, leb-false}
+use borrow.Author.Tests.{leb-false}
 use lib.Dec.{leb}
 use lib.ListN.{length, drop, length-drop, drop-of-length-le}
-use Rattle.tlv.specs.Lists.{bind}
 use Rattle.tlv.specs.Number.{numberBytes}
 use Rattle.tlv.specs.Element.{elementBytes, encode}
 use Rattle.tlv_writer.specs.Stored.{Stored}
@@ -20,7 +19,7 @@ use Rattle.lvs_description.specs.Description.{model, modelBytes, nothingLeft, d
 use Rattle.lvs_write.specs.declared.Cursor.{Cursor}
 use Rattle.lvs_write.specs.declared.Size.{Size}
 use Rattle.lvs_write.specs.Spelled.{Bytes, spelled}
-use Rattle.lvs_write.specs.Steps.{capped, listsAt, stateOf, movedBy, first, versionFrom, Writes, WritesVersion, sizeOf, Written}
+use Rattle.lvs_write.specs.Steps.{capped, listsAt, stateOf, first, versionFrom, Writes, WritesVersion, sizeOf, Written}
 use Rattle.lvs_write.proofs.Sizes.{capped-is}
 use Rattle.lvs_write.proofs.Moves.{apart, state-ok, state-not, moved-none, moved-some, one-wrote}
 

@@ -1,5 +1,4 @@
 -- `write_description` meets its contract. Assumes nothing.
-use native.Mathlib.Omega.{arith}
 use borrow.Author.Needs.{needs}
 use Rattle.lvs_write.proofs.Whole.{description-written}
 use Rattle.lvs_write.proofs.write_description.Statement.{statement}
