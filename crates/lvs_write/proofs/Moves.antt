@@ -53,7 +53,9 @@ module _ {A : Type 0} {f : Lists → Taken A} {ns ts : List ℕ} {s : Cursor} {a
       is = sym (ap (λ (o : Option (ℕ × Lists)). bind o (λ x. some (a, x))) (state-ok ns ts r e)) ∙ T .is
 
       more : (k : ℕ) (l : Lists) → stateOf ns ts s ≡ some (k, l) → (o : Taken A) → f l ≡ o → TookOk f ns ts s a r
-      more k l p none q = let there : _≡_ {A = Option (A × (ℕ × Lists))} (some (a, (capped (r .at), L))) none = is ∙ rw (p, q, takenBy) in absurd (apart (sym there))
+      more k l p none q =
+          let there : _≡_ {A = Option (A × (ℕ × Lists))} (some (a, (capped (r .at), L))) none = is ∙ rw (p, q, takenBy) in
+          absurd (apart (sym there))
       more k l p (some x) q =
           let there : _≡_ {A = Option (A × (ℕ × Lists))} (some (a, (capped (r .at), L))) (some (x .0, (k, x .1))) = is ∙ rw (p, q, takenBy) in
           let same = some-is there in

@@ -2,7 +2,7 @@
 use mathlib.Core.Path.{_≡_, refl, sym, ap, subst, _∙_}
 use mathlib.Core.Bool.{Bool, true, false}
 use mathlib.Core.List.{List, [], _∷_, _++_}
-use mathlib.Core.Option.{Option, none, some}
+use mathlib.Core.Option.{none, some}
 use Prim.Native.Nat.{ℕ, _+_, _-_, _≤_, _<_}
 use native.Mathlib.Omega.{arith}
 use borrow.Author.Tests.{leb-true, leb-false}
@@ -52,8 +52,7 @@ module _ {g : Lists → Bytes} {ns ts e e′ : List ℕ} (s : Cursor) {m : Curso
       more : s .ok ≡ true → (o : Bytes) → g L ≡ o → Inside g ns ts s m
       more q none r = absurd (apart (sym (M .moved ∙ moved-none g (begin q) r) ∙ there))
       more q (some x) r =
-          let same : _≡_ {A = Option (ℕ × Lists)} (some (capped (m .at), listsAt ns ts (m .number) (m .text))) (some (capped (capped 0 + length (x .0)), x .1)) =
-          sym there ∙ M .moved ∙ moved-some g (begin q) r in
+          let same = sym there ∙ M .moved ∙ moved-some g (begin q) r in
           let pair : _≡_ {A = ℕ × Lists} (capped (m .at), listsAt ns ts (m .number) (m .text)) (capped (capped 0 + length (x .0)), x .1) = cc in
           record {
             bytes = x .0;
@@ -139,7 +138,9 @@ module _ {g : Lists → Bytes} {ns ts e e′ : List ℕ} (s : Cursor) {m : Curso
         let part : length (take (end - start) (drop start b₁)) ≡ end - start =
         length-take-le (end - start) (drop start b₁) (simp length-drop (omega arith)) in
         let back : Stored (take (end - start) (drop start b₁)) y 0 bs =
-        W .put 0 _ bs (I .rest) (begin (I .ok) ∙ ap (λ (j : ℕ). some (j, L)) (capped-is 0 (omega arith))) (I .is) (omega (arith, x .0)) (omega (arith, x .0)) in
+        W .put 0 _ bs (I .rest) (begin (I .ok) ∙ ap (λ (j : ℕ). some (j, L)) (capped-is 0 (omega arith))) (I .is)
+        (omega (arith, x .0))
+        (omega (arith, x .0)) in
         let behind = stored-inside b₁ start (end - start) (omega arith) (omega (arith, x .0)) back in
         let head : headerBytes t n ++ bs ≡ el t bs = ap (λ (j : ℕ). headerBytes t j ++ bs) (x .0) ∙ header-then t bs in
         subst (Stored b (putMid start (end - start) b₁ y) (s .at)) head (stored-both H behind (sym start-is)))

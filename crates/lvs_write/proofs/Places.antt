@@ -237,7 +237,8 @@ module _ (ns ts : List ℕ) (s : Cursor) {next : Cursor} {n start : ℕ} (T : To
       go : (t : Bool) → next .ok ≡ t
           → bind (stateOf ns ts r) (λ x. some (take (start + n - start) (drop start ts), x)) ≡ takenBy (bytesOf n) (stateOf ns ts next)
       go true p =
-          rw (state-ok ns ts r p, state-ok ns ts next p, drop-least ts (next .text) least, le-leb n (length (drop start ts)) (simp length-drop h), size, drop-drop n start ts)
+          let room = le-leb n (length (drop start ts)) (simp length-drop h) in
+          rw (state-ok ns ts r p, state-ok ns ts next p, drop-least ts (next .text) least, room, size, drop-drop n start ts)
       go false p = rw (state-not ns ts r p, state-not ns ts next p)
 
 -- a component's type, and its bytes

@@ -2,7 +2,7 @@
 use mathlib.Core.Path.{_≡_, refl, sym, ap, subst, _∙_}
 use mathlib.Core.Bool.{Bool, true, false}
 use mathlib.Core.List.{List, [], _∷_}
-use mathlib.Core.Option.{Option, none, some}
+use mathlib.Core.Option.{none, some}
 use Prim.Native.Nat.{ℕ, _+_, _-_, _≤_, _<_}
 use native.Mathlib.Omega.{arith}
 use borrow.Author.Tests.{leb-false}
@@ -89,9 +89,9 @@ module _ (ns ts : List ℕ) {b b′ : List ℕ} {c : Cursor} (M : Writes (spelle
           absurd (apart (sym (M .moved ∙ moved-none (spelled model) start nothing) ∙ there))
       go (some r) q =
           let found : spelled model given ≡ some (encode (model .elements (r .0)), r .1) = rw q in
-          let same : _≡_ {A = Option (ℕ × Lists)} (some (capped (c .at), listsAt ns ts (c .number) (c .text))) (some (capped (capped 0 + length (encode (model .elements (r .0)))), r .1)) =
-          sym there ∙ M .moved ∙ moved-some (spelled model) start found in
-          let pair : _≡_ {A = ℕ × Lists} (capped (c .at), listsAt ns ts (c .number) (c .text)) (capped (capped 0 + length (encode (model .elements (r .0)))), r .1) = cc in
+          let bytes : List ℕ = encode (model .elements (r .0)) in
+          let same = sym there ∙ M .moved ∙ moved-some (spelled model) start found in
+          let pair : _≡_ {A = ℕ × Lists} (capped (c .at), listsAt ns ts (c .number) (c .text)) (capped (capped 0 + length bytes), r .1) = cc in
           record {
             model-read = r .0;
             is = q ∙ (λ i. some (r .0, sym pair i .1));
@@ -137,7 +137,8 @@ module _ (ns ts : List ℕ) {b b′ : List ℕ} {c : Cursor} (M : Writes (spelle
   unfolding descriptionOf modelBytes spelled
   description-written = record { put = put }
     where
-      go : (m : Model) (x : Taken Model) → model .from given ≡ x → descriptionOf ns ts ≡ some m → (rest : Lists) × (spelled model given ≡ some (modelBytes m, rest))
+      go : (m : Model) (x : Taken Model) → model .from given ≡ x → descriptionOf ns ts ≡ some m
+          → (rest : Lists) × (spelled model given ≡ some (modelBytes m, rest))
       go m none q p = absurd (apart (sym (rw q) ∙ p))
       go m (some r) q p =
           let left : nothingLeft (r .0) (r .1 .numbers) (r .1 .texts) ≡ some m = sym (rw q) ∙ p in
