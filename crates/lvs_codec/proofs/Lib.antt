@@ -1,0 +1,4 @@
+pub mod Codec
+pub mod Same
+pub mod Describes
+pub mod Writes

@@ -8,8 +8,9 @@ use lib.ListN.{length, take, drop, take-append-drop}
 use Rattle.lvs_spec.specs.Model.{Model}
 use Rattle.lvs_description.specs.Format.{Lists}
 use Rattle.lvs_description.specs.Description.{listsOf, numbersOf, textsOf}
+use Rattle.lvs_description.specs.Answers.{onFront}
 use Rattle.lvs_describe.specs.Lent.{Put, Lent, State, state, Describes}
-use Rattle.lvs_describe.specs.Answers.{onFront, described}
+use Rattle.lvs_describe.specs.Answers.{described}
 use Rattle.lvs_describe.specs.declared.Room.{Room}
 use Rattle.lvs_describe.specs.declared.Described.the-variants.{Of, TooShort}
 use Rattle.lvs_describe.proofs.Rooms.{Fits, Left, kept, fit, spent, left, never, Fitted, fitted, fit-test, no-fit-test}

@@ -1,11 +1,12 @@
 -- The describing call: its answer, and what the two lent lists hold after it. Definitions only.
 use Prim.Native.Nat.{ℕ}
 use mathlib.Core.Bool.{cond, _&&_}
-use mathlib.Core.List.{List, _++_}
+use mathlib.Core.List.{List}
 use lib.Dec.{leb}
-use lib.ListN.{length, drop}
+use lib.ListN.{length}
 use Rattle.lvs_spec.specs.Model.{Model}
 use Rattle.lvs_description.specs.Description.{numbersOf, textsOf}
+use Rattle.lvs_description.specs.Answers.{onFront}
 use Rattle.lvs_describe.specs.declared.Described.{Described}
 use Rattle.lvs_describe.specs.declared.Described.the-variants.{Of, TooShort}
 
@@ -13,10 +14,6 @@ pub record Outcome : Type 0 where
   pub answer : Described
   pub numbers : List ℕ
   pub texts : List ℕ
-
--- xs in place of the first entries of a list
-abbrev pub onFront : List ℕ → List ℕ → List ℕ
-onFront xs before = xs ++ drop (length xs) before
 
 -- ns and ts are the lists before the call
 unfoldable pub described : Model → List ℕ → List ℕ → Outcome

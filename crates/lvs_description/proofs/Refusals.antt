@@ -1,0 +1,67 @@
+-- Which refusal numbers the bytes of a description, and the two calls, can have. Assumes nothing.
+use Prim.Native.Nat.{ℕ}
+use mathlib.Core.Path.{_≡_, refl, sym, _∙_}
+use mathlib.Core.Bool.{Bool, true, false}
+use mathlib.Core.List.{List, [], _∷_, _++_, map, List·Memᴰ, List·Memᴰ·head, List·Memᴰ·tail}
+use mathlib.Core.Option.{Option, none, some}
+use Rattle.lvs_spec.specs.WellFormed.{tooLong}
+use Rattle.lvs_spec.specs.Model.{Model}
+use Rattle.lvs_spec.specs.Verdict.{Verdict, Test, fault, rules, decide, judge, verdict}
+use Rattle.lvs_spec.specs.Demands.{modelRefusals}
+use Rattle.lvs_spec.proofs.Lists.{clash}
+use Rattle.lvs_description.specs.Description.{modelBytes, formed}
+use Rattle.lvs_description.specs.Answers.{noDescription, shortOutput}
+use Rattle.lvs_description.proofs.Theorem.{readingOf, verdictOf, written-judged}
+
+-- rules 4 to 12
+abbrev ruleRefusals : List ℕ
+ruleRefusals = 4 ∷ 5 ∷ 6 ∷ 7 ∷ 8 ∷ 9 ∷ 10 ∷ 11 ∷ 12 ∷ []
+
+-- bytes that were written are never of another version (3)
+abbrev pub bytesRefusals : List ℕ
+bytesRefusals = 1 ∷ 2 ∷ ruleRefusals
+
+-- no description, or what its bytes are refused with, or no room
+abbrev pub writeRefusals : List ℕ
+writeRefusals = noDescription ∷ (bytesRefusals ++ (shortOutput ∷ []))
+
+-- what a model is refused with, or too short lists
+abbrev pub describeRefusals : List ℕ
+describeRefusals = modelRefusals ++ (noDescription ∷ [])
+
+-- ---- the bytes of a description
+
+abbrev numbers : List (ℕ × Test) → List ℕ
+numbers rs = map (λ (x : ℕ × Test). x .0) rs
+
+-- a rule of the table has its number
+decide-number : (m : Model) (rs : List (ℕ × Test)) {r i : ℕ} → decide m rs ≡ Verdict.refused r i → List·Memᴰ r (numbers rs)
+unfolding decide
+decide-number m [] h = clash (cc)
+decide-number m (x ∷ rs) {r} {i} h = go (fault m (x .1)) refl (λ h. decide-number m rs {i = i} h)
+  where
+    go : (o : Option ℕ) → fault m (x .1) ≡ o → (decide m rs ≡ Verdict.refused r i → List·Memᴰ r (numbers rs)) → List·Memᴰ r (numbers (x ∷ rs))
+    go none q rec = List·Memᴰ·tail (rec (rw (q, decide) at h))
+    go (some j) q rec =
+        let h′ : Verdict.refused (x .0) j ≡ Verdict.refused r i = rw (q, decide) at h in
+        let e : r ≡ x .0 = cc in
+        List·Memᴰ·head e
+
+judge-number : (m : Model) {r i : ℕ} → judge m ≡ Verdict.refused r i → List·Memᴰ r ruleRefusals
+unfolding judge rules
+judge-number m h = decide-number m (rules m) h
+
+pub bytes-number : (m : Model) {r i : ℕ} → verdict (modelBytes m) ≡ Verdict.refused r i → List·Memᴰ r bytesRefusals
+unfolding verdictOf readingOf
+bytes-number m {r} {i} h = go (tooLong (modelBytes m)) (formed m) refl refl (sym (written-judged m) ∙ h)
+  where
+    go : (x y : Bool) → tooLong (modelBytes m) ≡ x → formed m ≡ y → verdictOf m ≡ Verdict.refused r i → List·Memᴰ r bytesRefusals
+    go true y p q h =
+        let h′ : Verdict.refused 1 0 ≡ Verdict.refused r i = rw (p, verdictOf, readingOf) at h in
+        let e : r ≡ 1 = cc in
+        List·Memᴰ·head e
+    go false false p q h =
+        let h′ : Verdict.refused 2 0 ≡ Verdict.refused r i = rw (p, q, verdictOf, readingOf) at h in
+        let e : r ≡ 2 = cc in
+        List·Memᴰ·tail (List·Memᴰ·head e)
+    go false true p q h = List·Memᴰ·tail (List·Memᴰ·tail (judge-number m (rw (p, q, verdictOf, readingOf) at h)))
