@@ -4,7 +4,7 @@
 usage: speed.py [WORD..]    only the rows whose name has one of the words; none: all, in about four minutes
 
 A case is run many times by both programs. What reading and printing it costs is taken off: the same run with a model of the same length
-whose first byte is wrong, which both refuse at once. Instructions are counted by valgrind --tool=callgrind. The ratio of the times is
+whose first byte is wrong, which both refuse at once; of a description to write, the same with a number that makes it none, near its front. Instructions are counted by valgrind --tool=callgrind. The ratio of the times is
 the median over several turns, in each of which both programs run one after the other; its least and largest value stand after it. `a
 byte` is our instructions for each byte of the model.
 
@@ -78,6 +78,11 @@ def refused_at_last(size):
     """A fault of the last rule, in the last Node that has edges."""
     fault = build.pattern_edge(3, 1, build.constraint(build.option(build.call("$no"))))
     return value_edges(size - 64) + build.node(2, fault) + build.node(3, build.parent(2))
+
+
+def long_values(size):
+    """ValueEdges with components of 200 bytes."""
+    return two_nodes(build.value_edge(1, "p" * 200), size)
 
 
 SHAPES = value_edges, pattern_edges, constraints, optional_elements, chain, refused_at_last
@@ -159,15 +164,48 @@ def signings():
         yield from calls()
 
 
+NUMBERS = 8192  # that a case may have
+NO_FLAG = 4  # the place of the first Node's flag before its Parent, among the numbers
+
+
+def lists_of(model):
+    """The description of a model, by the reference."""
+    case = build.describe(model, [0] * NUMBERS, bytes(1 << 15))
+    line = subprocess.run([PROGRAMS[1]], input=case, capture_output=True, check=True).stdout.split()
+    if line[0] != b"described":
+        return None
+    count, size = int(line[1]), int(line[2])
+    return [int(word) for word in line[3:3 + count]], bytes.fromhex(line[-1].decode())[:size]
+
+
+def descriptions():
+    """(what, model, case, the case that is refused at once). What is described is lent already, so that both cases print the same."""
+    for shape in (value_edges, pattern_edges, constraints, chain, long_values):
+        for size in (1 << i for i in range(10, 16)):
+            model = shape(size)
+            lists = lists_of(model)
+            if lists is None:
+                continue  # more numbers than a case may have
+            numbers, texts = lists
+            none = numbers[:NO_FLAG] + [2] + numbers[NO_FLAG + 1:]
+            where = f"{shape.__name__}, {size >> 10} KiB"
+            yield f"write, {where}", model, build.write(numbers, texts, model), build.write(none, texts, model)
+            case = build.describe(model, numbers, texts)
+            yield f"describe, {where}", model, case, spoiled(case)
+
+
 def workloads():
-    """(what, model, case)"""
+    """(what, model, case, the case that is refused at once)"""
     for shape in SHAPES:
         for size in (1 << i for i in range(10, 16)):
             model = shape(size)
             assert size // 2 < len(model) <= size, (shape.__name__, size, len(model))
-            yield f"verdict, {shape.__name__}, {size >> 10} KiB", model, build.verdict(model)
+            case = build.verdict(model)
+            yield f"verdict, {shape.__name__}, {size >> 10} KiB", model, case, spoiled(case)
     for what, model, packet, key in signings():
-        yield what, model, build.sign(model, packet, key)
+        case = build.sign(model, packet, key)
+        yield what, model, case, spoiled(case)
+    yield from descriptions()
 
 
 # measuring
@@ -196,12 +234,12 @@ def seconds(program, given):
     return resource.getrusage(resource.RUSAGE_CHILDREN).ru_utime - before
 
 
-def time_ratios(case, count):
+def time_ratios(case, base, count):
     """Ours : the reference's in each turn, sorted."""
     with tempfile.TemporaryFile() as real, tempfile.TemporaryFile() as empty:
         for _ in range(count):
             real.write(case)
-            empty.write(spoiled(case))
+            empty.write(base)
         real.flush(), empty.flush()
         turns = []
         for _ in range(TURNS):
@@ -210,11 +248,11 @@ def time_ratios(case, count):
     return sorted(turns)
 
 
-def row(what, model, case):
-    ours, theirs = (instructions(program, case) - instructions(program, spoiled(case)) for program in PROGRAMS)
+def row(what, model, case, base):
+    ours, theirs = (instructions(program, case) - instructions(program, base) for program in PROGRAMS)
     count = max(20, int(TIMED_SECONDS * 5e9 / max(ours, 1)))
     count = min(count, (512 << 20) // len(case))
-    times = time_ratios(case, count)
+    times = time_ratios(case, base, count)
     spread = f"{times[0]:.2f} to {times[-1]:.2f}"
     print(f"{what:<40}{ours:>12.0f}{theirs:>12.0f}{ours / theirs:>8.2f}{times[TURNS // 2]:>8.2f}{spread:>16}{ours / len(model):>8.1f}", flush=True)
 
@@ -253,9 +291,9 @@ def main():
     wanted = lambda what: not words or any(word in what for word in words)
     build_reference()
     print(f"{'':<40}{'ours':>12}{'reference':>12}{'ratio':>8}{'time':>8}{'':>16}{'a byte':>8}")
-    for what, model, case in workloads():
+    for what, model, case, base in workloads():
         if wanted(what):
-            row(what, model, case)
+            row(what, model, case, base)
     print(f"\n{'without the verdict':<28}{'ours':>10}{'reference':>10}{'ratio':>7}{'our walk':>12}{'their walk':>12}{'ratio':>7}{'places':>9}")
     for what, cases in walks():
         if wanted(what):

@@ -1,4 +1,4 @@
-"""The examples that were given with the format (docs/format.md, 12.2 to 12.4), byte for byte."""
+"""The examples that were given with the format (docs/format.md, 13.2 to 13.4), byte for byte."""
 from build import *
 
 A = bytes.fromhex("61 04 00 01 10 00 25 01 00 69 01 00 63 03 25 01 00")

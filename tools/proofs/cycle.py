@@ -14,6 +14,8 @@ sys.path.insert(0, str(pathlib.Path(__file__).resolve().parent))
 from finish import skeletons  # noqa: E402
 from paths import Lts  # noqa: E402
 
+LIMIT = 145
+
 
 def blocks(text):
     """The top-level declarations of a file: each begins at a line that is not indented."""
@@ -53,7 +55,8 @@ class Cycle:
 
     def typed(self, name):
         lts, need, rest, _ = self.needs[name]
-        return f"{name} : (t : ℕ) → {lts}-lts.Need-{need} ({lts}-calls t) {rest}"
+        line = f"{name} : (t : ℕ) → {lts}-lts.Need-{need} ({lts}-calls t) {rest}"
+        return line if len(line) < LIMIT else line.replace(" → ", "\n    → ", 1)
 
 
 def expanded(cycle, name, body, folder):
@@ -70,6 +73,15 @@ def closing(cycle, said):
         if name not in said:
             text = text.replace(f"({name} t)", "(λ c κs. search needs)" if lifetimes else "(λ c. search needs)")
     return text
+
+
+def short(text):
+    """The cycle's own module has a long name: it is brought once, as `cycle`."""
+    module = re.search(r"use (\S+)\.Lts-\w+ as", text).group(1)
+    for member, name in re.findall(rf"use {re.escape(module)}\.Lts-(\w+) as (\S+)\n", text):
+        text = text.replace(f"use {module}.Lts-{member} as {name}\n", "")
+        text = re.sub(rf"(?<![\w-]){re.escape(name)}\.", f"cycle.Lts-{member}.", text)
+    return text.replace(f"use {module}.{{", f"use {module} as cycle\nuse {module}.{{", 1)
 
 
 def main():
@@ -105,7 +117,7 @@ def main():
     out += [line for answer in answers for line in (answer, "")]
     target = pathlib.Path(path)
     target.parent.mkdir(parents=True, exist_ok=True)
-    target.write_text("\n".join(out) + "\n" + closing(cycle, said), encoding="utf-8")
+    target.write_text(short("\n".join(out) + "\n" + closing(cycle, said)), encoding="utf-8")
     print("wrote", target)
 
 

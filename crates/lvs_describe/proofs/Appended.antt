@@ -36,10 +36,10 @@ pub component-appended : (t : ℕ) → Appended (component t)
 component-appended t = record { splits = λ e l. ap (put (e .type)) (text-splits (e .inside) l) }
 
 module _ {A B : Type 0} where
-  pub then-appended : {f : Format A} {g : Format B} → Appended f → Appended g → Appended (_then_ f g)
+  pub then-appended : {f : Format A} {g : Format B} → Appended f → Appended g → Appended (f then g)
   then-appended {f} {g} F G = record { splits = splits }
     where
-      splits : (p : A × B) (l : Lists) → _then_ f g .onto p l ≡ joined (_then_ f g .onto p nothing) l
+      splits : (p : A × B) (l : Lists) → (f then g) .onto p l ≡ joined ((f then g) .onto p nothing) l
       splits p l =
           let a = f .onto (p .0) nothing in
           let b = g .onto (p .1) nothing in

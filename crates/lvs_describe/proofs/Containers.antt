@@ -34,7 +34,7 @@ record Puts {A : Type 0} (f : Format A) (a : A) (s s′ : State) : Type 0 where
   described : Describes (shown f a) s s′
 
 then-put : {A B : Type 0} {f : Format A} {g : Format B} {a : A} {b : B} {s s′ s″ : State} → Appended f → Puts f a s s′ → Puts g b s′ s″
-    → Puts (_then_ f g) (a, b) s s″
+    → Puts (f then g) (a, b) s s″
 unfolding shown
 then-put {g = g} {a = a} {b = b} F p q = record { described = rw (F .splits a (g .onto b nothing)) (describes-then (p .described) (q .described)) }
 
@@ -45,7 +45,7 @@ module _ {s s′ : State} where
 
 -- behind a number
 numbered-then : {A B : Type 0} (f : Format A) {g : Format B} (a : A) {b : B} (n : ℕ) {s s′ s″ : State} → Appended f → Describes (put n (shown f a)) s s′
-    → Puts g b s′ s″ → Describes (put n (shown (_then_ f g) (a, b))) s s″
+    → Puts g b s′ s″ → Describes (put n (shown (f then g) (a, b))) s s″
 unfolding shown
 numbered-then f {g} a {b} n F p q = rw (F .splits a (g .onto b nothing)) (describes-then p (q .described))
 

@@ -3,8 +3,7 @@ use mathlib.Core.Path.{_≡_, refl, sym, ap, subst, _∙_}
 use mathlib.Core.Bool.{false}
 use mathlib.Core.Option.{Option, none, some}
 use mathlib.Core.List.{List, []}
-use Prim.Native.Nat.{ℕ, zero, suc, _≤_}
-use native.Mathlib.Omega.{arith}
+use Prim.Native.Nat.{ℕ, zero, suc}
 use Rattle.tlv.specs.Lists.{bind}
 use Rattle.tlv.specs.Element.{encode}
 use Rattle.lvs_spec.specs.Types as type
@@ -20,9 +19,18 @@ use Rattle.lvs_write.specs.Steps.{versionFrom, Took, TookNumber, Writes,
 use Rattle.lvs_write.proofs.Moves.{stopped-wrote, nothing-wrote, wrote-as, chosen-wrote}
 use Rattle.lvs_write.proofs.Fronts.{Same, after-same, text-any, then-spelled, under-spelled, within-spelled, behind-spelled, many-of}
 
+infixr 40 _⨾_
+-- one and then another
+abbrev pub _⨾_ : (Lists → Bytes) → (Lists → Bytes) → Lists → Bytes
+(f ⨾ g) l = after (f l) g
+
+-- a count, and so many of a sort
+abbrev pub all-of : Part → Lists → Bytes
+all-of p = counted (partFrom p)
+
 -- two parts, one behind the other
 pub both-parts : {A B : Type 0} {f g : Lists → Bytes} (F : Format A) (G : Format B) → Same f (spelled F) → Same g (spelled G)
-    → Same (λ l. after (f l) g) (spelled (F then G))
+    → Same (f ⨾ g) (spelled (F then G))
 both-parts F G p q l = after-same p q l ∙ then-spelled F G l
 
 as-it-is : (f : Lists → Bytes) → Same f f
@@ -72,44 +80,56 @@ symbol-part = within-spelled symbol type.TagSymbol
 
 -- ---- containers
 
-pub node-parts : Same (λ l. after (spelled (integer type.NodeId) l) (λ l. after (spelled (maybe (integer type.Parent)) l) (λ l. after (counted (partFrom Part.RuleName) l)
-    (λ l. after (counted (partFrom (Part.Nested Container.ValueEdge)) l) (λ l. after (counted (partFrom (Part.Nested Container.PatternEdge)) l) (counted (partFrom Part.Signer)))))))
+pub node-parts : Same
+    (spelled (integer type.NodeId) ⨾ spelled (maybe (integer type.Parent)) ⨾ all-of Part.RuleName ⨾ all-of (Part.Nested Container.ValueEdge) ⨾
+    all-of (Part.Nested Container.PatternEdge) ⨾ all-of Part.Signer)
     (spelled node)
 node-parts l =
-    both-parts _ _ (as-it-is _)
-    (both-parts _ _ (as-it-is _)
-    (both-parts _ _ (many-of _ rule-name-part)
-    (both-parts _ _ (many-of _ value-edge-part) (both-parts _ _ (many-of _ pattern-edge-part) (many-of _ signer-part))))) l ∙
-    under-spelled _ _ _ (λ a. refl) l
+    both-parts (integer type.NodeId) _ (as-it-is _)
+    (both-parts (maybe (integer type.Parent)) _ (as-it-is _)
+    (both-parts (many (text type.Identifier (marked 35))) _ (many-of _ rule-name-part)
+    (both-parts (many (within type.ValueEdge valueEdge)) _ (many-of _ value-edge-part)
+    (both-parts (many (within type.PatternEdge patternEdge)) (many (integer type.SignConstraint)) (many-of _ pattern-edge-part) (many-of _ signer-part))))) l ∙
+    under-spelled _ (λ n. (n .id, (n .parent, (n .ruleNames, (n .valueEdges, (n .patternEdges, n .signers)))))) _ (λ a. refl) l
 
-pub symbol-parts : Same (λ l. after (spelled (integer type.Tag) l) (textFrom type.Identifier)) (spelled symbol)
-symbol-parts l = both-parts _ _ (as-it-is _) (text-any type.Identifier identifier) l ∙ under-spelled _ _ _ (λ a. refl) l
+pub symbol-parts : Same (spelled (integer type.Tag) ⨾ textFrom type.Identifier) (spelled symbol)
+symbol-parts l =
+    both-parts (integer type.Tag) (text type.Identifier identifier) (as-it-is _) (text-any type.Identifier identifier) l ∙
+    under-spelled _ (λ s. (s .tag, s .identifier)) _ (λ a. refl) l
 
-pub value-edge-parts : Same (λ l. after (spelled (integer type.NodeId) l) (spelled (component type.Value))) (spelled valueEdge)
-value-edge-parts l = both-parts _ _ (as-it-is _) (as-it-is _) l ∙ under-spelled _ _ _ (λ a. refl) l
+pub value-edge-parts : Same (spelled (integer type.NodeId) ⨾ spelled (component type.Value)) (spelled valueEdge)
+value-edge-parts l =
+    both-parts (integer type.NodeId) (component type.Value) (as-it-is _) (as-it-is _) l ∙
+    under-spelled _ (λ e. (e .destination, e .value)) _ (λ a. refl) l
 
-pub pattern-edge-parts : Same (λ l. after (spelled (integer type.NodeId) l) (λ l. after (spelled (integer type.Tag) l) (counted (partFrom (Part.Nested Container.Constraint)))))
-    (spelled patternEdge)
+pub pattern-edge-parts : Same (spelled (integer type.NodeId) ⨾ spelled (integer type.Tag) ⨾ all-of (Part.Nested Container.Constraint)) (spelled patternEdge)
 pattern-edge-parts l =
-    both-parts _ _ (as-it-is _) (both-parts _ _ (as-it-is _) (many-of _ constraint-part)) l ∙ under-spelled _ _ _ (λ a. refl) l
+    both-parts (integer type.NodeId) _ (as-it-is _)
+    (both-parts (integer type.Tag) (many (within type.Constraint constraint)) (as-it-is _) (many-of _ constraint-part)) l ∙
+    under-spelled _ (λ e. (e .destination, (e .tag, e .constraints))) _ (λ a. refl) l
 
-pub call-parts : Same (λ l. after (textFrom type.FnId l) (counted (partFrom (Part.Nested Container.Argument)))) (spelled call)
-call-parts l = both-parts _ _ (text-any type.FnId (marked 36)) (many-of _ argument-part) l ∙ under-spelled _ _ _ (λ a. refl) l
+pub call-parts : Same (textFrom type.FnId ⨾ all-of (Part.Nested Container.Argument)) (spelled call)
+call-parts l =
+    both-parts (text type.FnId (marked 36)) (many (within type.UserFnArg argument)) (text-any type.FnId (marked 36)) (many-of _ argument-part) l ∙
+    under-spelled _ (λ c. (c .function, c .arguments)) _ (λ a. refl) l
 
-pub constraint-parts : Same (counted (partFrom (Part.Nested Container.ConstraintOption))) (spelled constraint)
+pub constraint-parts : Same (all-of (Part.Nested Container.ConstraintOption)) (spelled constraint)
 constraint-parts = many-of _ option-part
 
-pub option-parts : Same (counted (partFrom Part.Term)) (spelled option)
+pub option-parts : Same (all-of Part.Term) (spelled option)
 option-parts = many-of _ term-part
 
-pub model-parts : Same (λ l. after (versionFrom l) (λ l. after (spelled (integer type.NodeId) l) (λ l. after (spelled (integer type.NamedPatternCnt) l)
-    (λ l. after (counted (partFrom (Part.Nested Container.Node)) l) (counted (partFrom (Part.Nested Container.Symbol)))))))
+pub model-parts : Same
+    (versionFrom ⨾ spelled (integer type.NodeId) ⨾ spelled (integer type.NamedPatternCnt) ⨾ all-of (Part.Nested Container.Node) ⨾
+    all-of (Part.Nested Container.Symbol))
     (spelled model)
 model-parts l =
     after-same (as-it-is versionFrom)
-    (both-parts _ _ (as-it-is _) (both-parts _ _ (as-it-is _) (both-parts _ _ (many-of _ node-part) (many-of _ symbol-part)))) l ∙
+    (both-parts (integer type.NodeId) _ (as-it-is _)
+    (both-parts (integer type.NamedPatternCnt) _ (as-it-is _)
+    (both-parts (many (within type.Node node)) (many (within type.TagSymbol symbol)) (many-of _ node-part) (many-of _ symbol-part)))) l ∙
     behind-spelled _ l ∙
-    under-spelled _ _ _ (λ a. refl) l
+    under-spelled _ (λ m. (m .start, (m .patternCount, (m .nodes, m .symbols)))) _ (λ a. refl) l
 
 -- ---- what a number chooses
 
@@ -130,33 +150,31 @@ termBytes (suc zero) l = spelled (integer type.Tag) l
 termBytes (suc (suc zero)) l = nestedFrom Container.Call l
 termBytes (suc (suc (suc n))) l = none
 
+-- what a format reads after its number, as bytes
+abbrev shown : {A : Type 0} → Format A → Taken A → Bytes
+shown f o = bind o (λ r. some (encode (f .elements (r .0)), r .1))
+
 -- a format whose number decides, where each choice spells what the number says
 module _ {A : Type 0} (f : Format A) (from : ℕ → Lists → Taken A) (bytes : ℕ → Lists → Bytes) where
   choices : ((l : Lists) → f .from l ≡ bind (takeNumber l) (λ r. from (r .0) (r .1)))
-      → ((n : ℕ) (l : Lists) → bind {B = List ℕ × Lists} (from n l) (λ r. some (encode (f .elements (r .0)), r .1)) ≡ bytes n l)
+      → ((n : ℕ) (l : Lists) → shown f (from n l) ≡ bytes n l)
       → (l : Lists) → spelled f l ≡ bind (takeNumber l) (λ x. bytes (x .0) (x .1))
   unfolding spelled
   choices p q l = rw (p l) (go (takeNumber l))
     where
-      go : (x : Taken ℕ) → bind {B = List ℕ × Lists} (bind x (λ r. from (r .0) (r .1))) (λ r. some (encode (f .elements (r .0)), r .1)) ≡ bind x (λ x. bytes (x .0) (x .1))
+      go : (x : Taken ℕ) → shown f (bind x (λ r. from (r .0) (r .1))) ≡ bind x (λ x. bytes (x .0) (x .1))
       go none = refl
       go (some r) = q (r .0) (r .1)
 
   -- one choice: what another format reads, put into this one
   choice : {B : Type 0} (g : Format B) (into : B → A) → ((b : B) → f .elements (into b) ≡ g .elements b) → (l : Lists)
-      → bind {B = List ℕ × Lists} (bind {B = A × Lists} (g .from l) (λ r. some (into (r .0), r .1))) (λ r. some (encode (f .elements (r .0)), r .1)) ≡ spelled g l
+      → shown f (bind (g .from l) (λ r. some (into (r .0), r .1))) ≡ spelled g l
   unfolding spelled
   choice {B} g into same l = go (g .from l)
     where
-      go : (x : Taken B)
-          → bind {B = List ℕ × Lists} (bind {B = A × Lists} x (λ r. some (into (r .0), r .1))) (λ r. some (encode (f .elements (r .0)), r .1))
-          ≡ bind x (λ r. some (encode (g .elements (r .0)), r .1))
+      go : (x : Taken B) → shown f (bind x (λ r. some (into (r .0), r .1))) ≡ shown g x
       go none = refl
       go (some r) = rw (same (r .0))
-
--- what a format reads after its number, as bytes
-abbrev shown : {A : Type 0} → Format A → Taken A → Bytes
-shown f o = bind o (λ r. some (encode (f .elements (r .0)), r .1))
 
 pub parent-chosen : (l : Lists) → spelled (maybe (integer type.Parent)) l ≡ bind (takeNumber l) (λ x. parentBytes (x .0) (x .1))
 unfolding parentBytes encode
@@ -320,6 +338,6 @@ pub nested-written : (c : Container) → Same (nestedFrom c) (partFrom (Part.Nes
 unfolding partFrom
 nested-written c l = refl
 
-pub nested-is : (c : Container) → Same (λ l. wrapped (typeOf c) (insideFrom c l)) (nestedFrom c)
+pub nested-as : {t : ℕ} (c : Container) → t ≡ typeOf c → Same (λ l. wrapped t (insideFrom c l)) (nestedFrom c)
 unfolding nestedFrom
-nested-is c l = refl
+nested-as c e l = ap (λ (k : ℕ). wrapped k (insideFrom c l)) e

@@ -1,20 +1,16 @@
 -- Formats and the bytes that they spell: a format made of others spells theirs one behind the other. Assumes nothing.
 use mathlib.Core.Path.{_≡_, refl, sym, ap, _∙_}
-use mathlib.Core.Bool.{Bool, true, false}
-use mathlib.Core.List.{List, [], _∷_, _++_, append-assoc, append-nil}
-use mathlib.Core.Option.{Option, none, some}
+use mathlib.Core.Bool.{Bool, true}
+use mathlib.Core.List.{List, [], append-assoc, append-nil}
+use mathlib.Core.Option.{none, some}
 use Prim.Native.Nat.{ℕ, zero, suc}
 use Rattle.tlv.specs.Lists.{bind, each}
-use Rattle.tlv.specs.Element.{Element, encode}
+use Rattle.tlv.specs.Element.{encode}
 use Rattle.lvs_spec.specs.Types as type
-use Rattle.lvs_spec.specs.Leaves.{marked, identifier}
 use Rattle.lvs_spec.specs.WellFormed.{thisVersion}
 use Rattle.lvs_description.specs.Format.{Lists, Taken, takeNumber, takeText, takeComponent, integerBytes, Format, holds, integer, text, component}
-use Rattle.lvs_description.specs.Format.{_then_, under, times, many, maybeFrom, maybe, within, behind}
-use Rattle.lvs_description.specs.Description as description
-use Rattle.lvs_write.specs.declared.Container.{Container}
-use Rattle.lvs_write.specs.declared.Part.{Part}
-use Rattle.lvs_write.specs.Spelled.{Bytes, spelled, textFrom, after, wrapped, run, counted, insideFrom, nestedFrom, partFrom}
+use Rattle.lvs_description.specs.Format.{_then_, under, times, many, within, behind}
+use Rattle.lvs_write.specs.Spelled.{Bytes, spelled, textFrom, after, wrapped, run, counted}
 use Rattle.lvs_write.specs.Steps.{versionFrom}
 use Rattle.lvs_write.proofs.Sizes.{el, encode-one, encode-append}
 

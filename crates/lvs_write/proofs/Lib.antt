@@ -6,3 +6,4 @@ pub mod Nested
 pub mod Places
 pub mod Containers
 pub mod Heights
+pub mod Whole

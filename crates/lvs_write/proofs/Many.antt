@@ -1,16 +1,16 @@
 -- A run of parts of one sort, written one after the other. Assumes nothing.
 use mathlib.Core.Path.{_≡_, refl, sym, ap, _∙_}
-use mathlib.Core.Bool.{Bool, true, false}
+use mathlib.Core.Bool.{false}
 use mathlib.Core.List.{List, []}
-use mathlib.Core.Option.{Option, none, some}
+use mathlib.Core.Option.{none, some}
 use Prim.Native.Nat.{ℕ, zero, suc, _+_, _-_, _≤_, _<_}
 use native.Mathlib.Omega.{arith}
 use lib.ListN.{length}
 use Rattle.lvs_description.specs.Format.{Lists, takeNumber}
 use Rattle.lvs_write.specs.declared.Cursor.{Cursor}
 use Rattle.lvs_write.specs.Spelled.{Bytes, after, run, counted}
-use Rattle.lvs_write.specs.Steps.{stateOf, movedBy, Took, TookNumber, Writes}
-use Rattle.lvs_write.proofs.Moves.{apart, state-ok, state-not, moved-none, moved-some, stopped-wrote, nothing-wrote, wrote-as, then-wrote, chosen-wrote}
+use Rattle.lvs_write.specs.Steps.{stateOf, Took, Writes}
+use Rattle.lvs_write.proofs.Moves.{apart, state-not, moved-some, stopped-wrote, nothing-wrote, wrote-as, then-wrote, chosen-wrote}
 use Rattle.lvs_write.proofs.Fronts.{after-same, after-assoc, after-nothing}
 
 module _ (f : Lists → Bytes) where

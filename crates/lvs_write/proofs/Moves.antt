@@ -1,14 +1,14 @@
 -- From one place of the lists to another: what is taken off them, and what is written of it, one part behind the other. Assumes nothing.
 use mathlib.Core.Path.{_≡_, refl, sym, ap, subst, _∙_}
-use mathlib.Core.Bool.{Bool, true, false, cond}
-use mathlib.Core.List.{List, [], _∷_, _++_}
+use mathlib.Core.Bool.{Bool, true, false}
+use mathlib.Core.List.{List, [], _++_}
 use mathlib.Core.Option.{Option, none, some}
 use Prim.Native.Nat.{ℕ, _+_, _≤_}
 use native.Mathlib.Omega.{arith}
 use lib.ListN.{length, length-append}
 use Rattle.tlv.specs.Lists.{bind}
 use Rattle.tlv_writer.specs.Stored.{Stored}
-use Rattle.tlv_writer.proofs.Stores.{stored-both, stored-length}
+use Rattle.tlv_writer.proofs.Stores.{stored-both}
 use Rattle.lvs_description.specs.Format.{Lists, Taken}
 use Rattle.lvs_write.specs.declared.Cursor.{Cursor}
 use Rattle.lvs_write.specs.Spelled.{Bytes, after}
@@ -53,7 +53,9 @@ module _ {A : Type 0} {f : Lists → Taken A} {ns ts : List ℕ} {s : Cursor} {a
       is = sym (ap (λ (o : Option (ℕ × Lists)). bind o (λ x. some (a, x))) (state-ok ns ts r e)) ∙ T .is
 
       more : (k : ℕ) (l : Lists) → stateOf ns ts s ≡ some (k, l) → (o : Taken A) → f l ≡ o → TookOk f ns ts s a r
-      more k l p none q = let there : _≡_ {A = Option (A × (ℕ × Lists))} (some (a, (capped (r .at), L))) none = is ∙ rw (p, q, takenBy) in absurd (apart (sym there))
+      more k l p none q =
+          let there : _≡_ {A = Option (A × (ℕ × Lists))} (some (a, (capped (r .at), L))) none = is ∙ rw (p, q, takenBy) in
+          absurd (apart (sym there))
       more k l p (some x) q =
           let there : _≡_ {A = Option (A × (ℕ × Lists))} (some (a, (capped (r .at), L))) (some (x .0, (k, x .1))) = is ∙ rw (p, q, takenBy) in
           let same = some-is there in

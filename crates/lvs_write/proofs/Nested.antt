@@ -2,13 +2,13 @@
 use mathlib.Core.Path.{_≡_, refl, sym, ap, subst, _∙_}
 use mathlib.Core.Bool.{Bool, true, false}
 use mathlib.Core.List.{List, [], _∷_, _++_}
-use mathlib.Core.Option.{Option, none, some}
-use Prim.Native.Nat.{ℕ, zero, suc, _+_, _-_, _≤_, _<_}
+use mathlib.Core.Option.{none, some}
+use Prim.Native.Nat.{ℕ, _+_, _-_, _≤_, _<_}
 use native.Mathlib.Omega.{arith}
 use borrow.Author.Tests.{leb-true, leb-false}
 use borrow.Rule.Slice.PartMut.{putMid}
 use lib.Dec.{leb}
-use lib.ListN.{length, take, drop, length-take, length-drop}
+use lib.ListN.{length, take, drop, length-drop}
 use lib.Seq.{length-take-le, take-at, drop-at, drop-drop}
 use Rattle.tlv_writer.specs.Stored.{Stored}
 use Rattle.tlv_writer.proofs.Stores.{stored-both, stored-length, stored-inside}
@@ -16,7 +16,7 @@ use Rattle.lvs_description.specs.Format.{Lists}
 use Rattle.lvs_write.specs.declared.Cursor.{Cursor}
 use Rattle.lvs_write.specs.Spelled.{Bytes, wrapped}
 use Rattle.lvs_write.specs.Steps.{capped, elementSize, headerBytes, listsAt, stateOf, movedBy, Writes}
-use Rattle.lvs_write.proofs.Sizes.{el, capped-low, capped-is, capped-add, capped-capped, capped-element, header-then, header-length, element-length, element-room}
+use Rattle.lvs_write.proofs.Sizes.{el, capped-low, capped-is, capped-add, capped-capped, capped-element, header-then, element-length, element-room}
 use Rattle.lvs_write.proofs.Moves.{apart, state-ok, state-not, moved-none, moved-some, stopped-wrote, one-wrote}
 
 -- the same place, where nothing has been written yet
@@ -52,8 +52,7 @@ module _ {g : Lists → Bytes} {ns ts e e′ : List ℕ} (s : Cursor) {m : Curso
       more : s .ok ≡ true → (o : Bytes) → g L ≡ o → Inside g ns ts s m
       more q none r = absurd (apart (sym (M .moved ∙ moved-none g (begin q) r) ∙ there))
       more q (some x) r =
-          let same : _≡_ {A = Option (ℕ × Lists)} (some (capped (m .at), listsAt ns ts (m .number) (m .text))) (some (capped (capped 0 + length (x .0)), x .1)) =
-          sym there ∙ M .moved ∙ moved-some g (begin q) r in
+          let same = sym there ∙ M .moved ∙ moved-some g (begin q) r in
           let pair : _≡_ {A = ℕ × Lists} (capped (m .at), listsAt ns ts (m .number) (m .text)) (capped (capped 0 + length (x .0)), x .1) = cc in
           record {
             bytes = x .0;
@@ -139,18 +138,25 @@ module _ {g : Lists → Bytes} {ns ts e e′ : List ℕ} (s : Cursor) {m : Curso
         let part : length (take (end - start) (drop start b₁)) ≡ end - start =
         length-take-le (end - start) (drop start b₁) (simp length-drop (omega arith)) in
         let back : Stored (take (end - start) (drop start b₁)) y 0 bs =
-        W .put 0 _ bs (I .rest) (begin (I .ok) ∙ ap (λ (j : ℕ). some (j, L)) (capped-is 0 (omega arith))) (I .is) (omega (arith, x .0)) (omega (arith, x .0)) in
+        W .put 0 _ bs (I .rest) (begin (I .ok) ∙ ap (λ (j : ℕ). some (j, L)) (capped-is 0 (omega arith))) (I .is)
+        (omega (arith, x .0))
+        (omega (arith, x .0)) in
         let behind = stored-inside b₁ start (end - start) (omega arith) (omega (arith, x .0)) back in
         let head : headerBytes t n ++ bs ≡ el t bs = ap (λ (j : ℕ). headerBytes t j ++ bs) (x .0) ∙ header-then t bs in
         subst (Stored b (putMid start (end - start) b₁ y) (s .at)) head (stored-both H behind (sym start-is)))
 
 -- nothing was written into a part of no bytes
-pub untouched : (b y : List ℕ) → length y ≡ length (take 0 (drop 0 b)) → putMid 0 0 b y ≡ b
-untouched b y e =
-    let none-there : length (take 0 (drop 0 b)) ≡ 0 = simp length-take (omega arith) in
-    let y-is : y ≡ [] = nil y (e ∙ none-there) in
-    (λ i. take-at [] b 0 refl i ++ (y-is i ++ drop-drop 0 0 b i)) ∙ drop-at [] b 0 refl
+pub untouched : (b y : List ℕ) → length y ≡ 0 → putMid 0 0 b y ≡ b
+untouched b y e = (λ i. take-at [] b 0 refl i ++ (nil y e i ++ drop-drop 0 0 b i)) ∙ drop-at [] b 0 refl
   where
     nil : (l : List ℕ) → length l ≡ 0 → l ≡ []
     nil [] p = refl
     nil (x ∷ l) p = absurd (omega arith)
+
+-- the list as it was before
+pub from-start : {f : Lists → Bytes} {ns ts b b₀ now : List ℕ} {s r : Cursor} → b ≡ b₀ → Writes f ns ts b now s r → Writes f ns ts b₀ now s r
+from-start {f} {ns} {ts} {b} {b₀} {now} {s} {r} e W = subst (λ (x : List ℕ). Writes f ns ts x now s r) e W
+
+-- the place behind an element, whose inside ends at m
+abbrev pub placed : Cursor → ℕ → Cursor
+placed m k = record { ok = true; number = m .number; text = m .text; at = k }

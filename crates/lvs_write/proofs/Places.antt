@@ -1,27 +1,27 @@
 -- Elements that hold plain bytes: their sizes, their places, and what was taken off the lists for them. Assumes nothing.
 use mathlib.Core.Path.{_≡_, refl, sym, ap, subst, _∙_}
 use mathlib.Core.Bool.{Bool, true, false, cond}
-use mathlib.Core.List.{List, [], _∷_, _++_}
+use mathlib.Core.List.{List, _∷_, _++_}
 use mathlib.Core.Option.{Option, none, some}
-use Prim.Native.Nat.{ℕ, zero, suc, _+_, _-_, _^_, _≤_, _<_, min}
+use Prim.Native.Nat.{ℕ, _+_, _-_, _^_, _≤_, _<_, min}
 use native.Mathlib.Numerals.{add-one}
 use native.Mathlib.Omega.{arith}
 use borrow.Author.Tests.{lt-ltb, le-ltb, le-leb, lt-leb, leb-true, leb-false, ltb-true}
 use lib.Dec.{leb, ltb, lit≤}
 use lib.ListN.{length, take, drop, getD, length-drop, drop-of-length-le}
 use lib.Seq.{drop-cons, drop-drop}
-use Rattle.tlv.specs.Lists.{bind, guard}
+use Rattle.tlv.specs.Lists.{bind}
 use Rattle.tlv.specs.Bytes.{bigEndianBytes}
 use Rattle.tlv.specs.Number.{numberBytes, integerSize}
 use Rattle.tlv.proofs.Bytes.{length-spelled}
 use Rattle.tlv_writer.proofs.Numbers.{number-most}
 use Rattle.tlv_writer.specs.Stored.{Stored, Digits}
 use Rattle.tlv_writer.proofs.Stores.{stored-both, stored-length}
-use Rattle.lvs_description.specs.Format.{Lists, Taken, headOf, takeNumber, bytesOf, takeText, takeComponent, integerWidth, integerBytes}
+use Rattle.lvs_description.specs.Format.{Lists, Taken, bytesOf, takeText, takeComponent, integerWidth, integerBytes}
 use Rattle.lvs_write.specs.declared.Cursor.{Cursor}
-use Rattle.lvs_write.specs.Steps.{capped, elementSize, headerBytes, listsAt, stateOf, takenBy, Took, TookNumber, TookText, Puts}
+use Rattle.lvs_write.specs.Steps.{capped, elementSize, headerBytes, stateOf, takenBy, Took, TookNumber, TookText, Puts}
 use Rattle.lvs_write.proofs.Sizes.{el, header-then, header-length, element-length, element-room}
-use Rattle.lvs_write.proofs.Moves.{apart, state-ok, state-not, TookOk, took-ok, took-none}
+use Rattle.lvs_write.proofs.Moves.{apart, state-ok, state-not, took-ok, took-none}
 
 -- ---- sizes
 
@@ -98,12 +98,12 @@ module _ (n : ℕ) where
 -- ---- an element in its place
 
 module _ (t at n : ℕ) {size : ℕ} (size-is : size ≡ elementSize t n) where
-  pub header-fits : (b : List ℕ) {r : Bool} → r ≡ leb (at + size) (length b) → r ≡ true → at + length (headerBytes t n) ≤ length b
-  header-fits b e f = let h : at + size ≤ length b = leb-true _ _ (sym e ∙ f) in omega (arith, element-room t n)
+  pub header-fits : (len : ℕ) {r : Bool} → r ≡ leb (at + size) len → r ≡ true → at + length (headerBytes t n) ≤ len
+  header-fits len e f = let h : at + size ≤ len = leb-true _ _ (sym e ∙ f) in omega (arith, element-room t n)
 
-  pub inside-fits : (b b₁ : List ℕ) {r : Bool} {start : ℕ} → r ≡ leb (at + size) (length b) → r ≡ true
+  pub inside-fits : {b b₁ : List ℕ} {r : Bool} {start : ℕ} → r ≡ leb (at + size) (length b) → r ≡ true
       → (start ≡ at + length (headerBytes t n)) × Stored b b₁ at (headerBytes t n) → start + n ≤ length b₁
-  inside-fits b b₁ e f H =
+  inside-fits {b} e f H =
       let h : at + size ≤ length b = leb-true _ _ (sym e ∙ f) in
       omega (arith, element-room t n, H .0, stored-length (H .1))
 
@@ -136,10 +136,10 @@ unfolding elementSize
 component-small c src e h = omega (arith, number-most c, number-most (length src))
 
 pub component-stored : (t c at n : ℕ) {size : ℕ} {src b₁ b₂ : List ℕ} {start k : ℕ} {r : Bool} → n ≡ elementSize c (length src) → size ≡ elementSize t n
-    → (b : List ℕ) → r ≡ leb (at + size) (length b) → r ≡ true → (start ≡ at + length (headerBytes t n)) × Stored b b₁ at (headerBytes t n)
+    → {b : List ℕ} → r ≡ leb (at + size) (length b) → r ≡ true → (start ≡ at + length (headerBytes t n)) × Stored b b₁ at (headerBytes t n)
     → Puts b₁ b₂ start c src k → Puts b b₂ at t (el c src) size
-component-stored t c at n {size} {src} {b₁} {b₂} {start} n-is size-is b e f H P =
-    let fits = inside-fits t at n size-is b b₁ e f H in
+component-stored t c at n {size} {src} {b₁} {b₂} {start} n-is size-is e f H P =
+    let fits = inside-fits t at n size-is e f H in
     let long = component-size c src n-is in
     puts-all t at n size-is long H (P .put (omega (arith, P .size-is)))
 
@@ -237,7 +237,8 @@ module _ (ns ts : List ℕ) (s : Cursor) {next : Cursor} {n start : ℕ} (T : To
       go : (t : Bool) → next .ok ≡ t
           → bind (stateOf ns ts r) (λ x. some (take (start + n - start) (drop start ts), x)) ≡ takenBy (bytesOf n) (stateOf ns ts next)
       go true p =
-          rw (state-ok ns ts r p, state-ok ns ts next p, drop-least ts (next .text) least, le-leb n (length (drop start ts)) (simp length-drop h), size, drop-drop n start ts)
+          let room = le-leb n (length (drop start ts)) (simp length-drop h) in
+          rw (state-ok ns ts r p, state-ok ns ts next p, drop-least ts (next .text) least, room, size, drop-drop n start ts)
       go false p = rw (state-not ns ts r p, state-not ns ts next p)
 
 -- a component's type, and its bytes

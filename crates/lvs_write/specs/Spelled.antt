@@ -2,7 +2,7 @@
 use Prim.Native.Nat.{ℕ, zero, suc}
 use mathlib.Core.Bool.{true}
 use mathlib.Core.List.{List, [], _++_}
-use mathlib.Core.Option.{Option, none, some}
+use mathlib.Core.Option.{some}
 use Rattle.tlv.specs.Lists.{bind}
 use Rattle.tlv.specs.Element.{encode, elementBytes}
 use Rattle.lvs_spec.specs.Types as type

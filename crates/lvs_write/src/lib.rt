@@ -9,6 +9,7 @@ ghost use mathlib.Core.Path.{_≡_};
 ghost use Rattle.lvs_description.specs.Description.{model, descriptionOf};
 ghost use Rattle.lvs_write.specs.Spelled.{spelled};
 ghost use Rattle.lvs_write.specs.Steps.{first, sizeOf, Writes, WritesVersion, Written};
+use leaves::cap;
 use leaves::has_room;
 use leaves::write_integer;
 use lvs_spec::types::NAMED_PATTERN_CNT;
@@ -67,7 +68,7 @@ pub fn described_size(numbers: &[u64], texts: &[u8]) -> Size
     if c.text < texts.len() {
         return Size::Nothing;
     }
-    Size::Bytes(c.at)
+    Size::Bytes(cap(c.at))
 }
 
 // Writes the bytes of a description over the front of a buffer that has room for them; those behind stay.

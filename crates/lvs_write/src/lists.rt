@@ -1,7 +1,7 @@
 // Numbers and texts, taken off the two lists. A cursor that is not ok stays so.
 ghost use mathlib.Core.Path.{_≡_};
 ghost use mathlib.Core.Bool.{false};
-ghost use Prim.Native.Nat.{_≤_, min};
+ghost use Prim.Native.Nat.{min};
 ghost use Rattle.lvs_write.specs.Steps.{TookNumber, TookText};
 use crate::Cursor;
 

@@ -97,17 +97,19 @@ fn write_nested(
     let n = cap(inside.at);
     let size = element_size(typ, n);
     let at = s.at;
-    if has_room(out.len(), at, size) {
-        let start = put_header(out, at, typ, n as u64);
-        let end = start + n;
-        write_inside(container, numbers, texts, &mut out[start..end], front);
-    }
-    Cursor {
+    let next = Cursor {
         ok: true,
         number: inside.number,
         text: inside.text,
         at: add(at, size),
+    };
+    if !has_room(out.len(), at, size) {
+        return next;
     }
+    let start = put_header(out, at, typ, n as u64);
+    let end = start + n;
+    write_inside(container, numbers, texts, &mut out[start..end], front);
+    next
 }
 
 fn type_of(container: Container) -> u32

@@ -1,12 +1,12 @@
 -- Stores into a list, one run behind another, and into a part of it that was lent. Assumes nothing.
 use mathlib.Core.Path.{_≡_, refl, sym, ap, _∙_}
 use mathlib.Core.List.{List, [], _∷_, _++_, append-assoc, append-nil}
-use Prim.Native.Nat.{ℕ, zero, suc, _+_, _-_, _≤_, _<_}
+use Prim.Native.Nat.{ℕ, suc, _+_, _-_, _≤_, _<_}
 use native.Mathlib.Nat.{add-suc, suc-add, add-zero}
 use native.Mathlib.Numerals.{add-one}
 use native.Mathlib.Omega.{arith}
 use borrow.Rule.Slice.PartMut.{putMid}
-use lib.ListN.{length, take, drop, set, getD, length-append, length-drop, length-take, drop-of-length-le}
+use lib.ListN.{length, take, drop, set, getD, length-drop, drop-of-length-le}
 use lib.Seq.{sets, sets-eq, length-sets, take-suc, take-all, take-at, drop-drop, length-take-le}
 use Rattle.tlv_writer.specs.Stored.{Stored}
 

@@ -1,5 +1,4 @@
 -- `tlv_writer::mark_of` meets its contract. Assumes nothing.
-use native.Mathlib.Omega.{arith}
 use borrow.Author.Needs.{needs}
 use Rattle.tlv_writer.proofs.Numbers.{mark-2, mark-4, mark-8}
 use Rattle.tlv_writer.proofs.mark_of.Statement.{statement}

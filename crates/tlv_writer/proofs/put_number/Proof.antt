@@ -15,19 +15,42 @@ returns : tie.Need-returns
 returns c = short-stored _ _ _ (c .if1 .taken)
 
 slice-write-out-2 : tie.Need-slice-write-out-2
-slice-write-out-2 c = omega (arith, c .before .before .before .before .pre, long-size _ (c .before .before .if1 .left))
+slice-write-out-2 c =
+    let at-if1 = c .before .before in
+    let at-pre = at-if1 .before .before in
+    omega (arith, at-pre .pre, long-size _ (at-if1 .if1 .left))
 
 put-digits-requires : tie.Need-put-digits-requires
-put-digits-requires c κs = digits-behind _ _ (c .before .before .before .before .before .args .out .now) (c .before .before .before .if1 .left) (c .before .before .mark-of .ensures) (c .before .width-of .ensures) (c .before .before .before .before .before .pre) (search needs)
+put-digits-requires c κs =
+    let at-width-of = c .before in
+    let at-mark-of = at-width-of .before in
+    let at-if1 = at-mark-of .before in
+    let at-args = at-if1 .before .before in
+    digits-behind _ _ (at-args .args .out .now) (at-if1 .if1 .left)
+    (at-mark-of .mark-of .ensures) (at-width-of .width-of .ensures)
+    (at-args .pre) (search needs)
 
 returns-2 : tie.Need-returns-2
-returns-2 c = long-stored _ _ _ (c .before .before .before .before .before .before .if1 .left) (c .before .before .before .before .before .mark-of .ensures) (c .before .before .before .before .width-of .ensures) refl (c .before .before .put-digits .ensures)
+returns-2 c =
+    let at-put-digits = c .before .before in
+    let at-width-of = at-put-digits .before .before in
+    let at-mark-of = at-width-of .before in
+    let at-if1 = at-mark-of .before in
+    long-stored _ _ _ (at-if1 .if1 .left) (at-mark-of .mark-of .ensures) (at-width-of .width-of .ensures) refl (at-put-digits .put-digits .ensures)
 
 add-result-2 : tie.Need-add-result-2
-add-result-2 c = omega (arith, c .before .before .before .before .before .before .before .before .pre, number-size _ (c .before .before .before .before .before .before .if1 .left) (c .before .before .before .before .before .mark-of .ensures) (c .before .before .before .before .width-of .ensures) .0)
+add-result-2 c =
+    let at-width-of = c .before .before .before .before in
+    let at-mark-of = at-width-of .before in
+    let at-if1 = at-mark-of .before in
+    let at-pre = at-if1 .before .before in
+    omega (arith, at-pre .pre, number-size _ (at-if1 .if1 .left) (at-mark-of .mark-of .ensures) (at-width-of .width-of .ensures) .0)
 
 same-length-2 : tie.Need-same-length-2
-same-length-2 c = stored-length (c .before .before .put-digits .ensures) ∙ length-set (c .before .before .before .before .before .before .before .before .args .out .now) _ _
+same-length-2 c =
+    let at-put-digits = c .before .before in
+    let at-args = at-put-digits .before .before .before .before .before .before in
+    stored-length (at-put-digits .put-digits .ensures) ∙ length-set (at-args .args .out .now) _ _
 
 pub put-number-spec : {M : Type 1} → statement M
 put-number-spec =

@@ -1,12 +1,14 @@
 -- `tlv_writer::put_u16` meets its contract. Assumes nothing.
-use native.Mathlib.Omega.{arith}
 use borrow.Author.Needs.{needs}
 use Rattle.tlv_writer.proofs.Numbers.{halves-stored}
 use Rattle.tlv_writer.proofs.put_u16.Statement.{statement}
 use Rattle.tlv_writer.proofs.put_u16.Tie as tie
 
 returns : tie.Need-returns
-returns c = halves-stored _ 1 1 _ (search needs) (c .before .before .before .before .before .before .put-u8 .ensures) (c .before .before .put-u82 .ensures)
+returns c =
+    let at-put-u82 = c .before .before in
+    let at-put-u8 = at-put-u82 .before .before .before .before in
+    halves-stored _ 1 1 _ (search needs) (at-put-u8 .put-u8 .ensures) (at-put-u82 .put-u82 .ensures)
 
 pub put-u16-spec : {M : Type 1} → statement M
 put-u16-spec =

@@ -1,12 +1,14 @@
 -- `tlv_writer::put_u64` meets its contract. Assumes nothing.
-use native.Mathlib.Omega.{arith}
 use borrow.Author.Needs.{needs}
 use Rattle.tlv_writer.proofs.Numbers.{halves-stored}
 use Rattle.tlv_writer.proofs.put_u64.Statement.{statement}
 use Rattle.tlv_writer.proofs.put_u64.Tie as tie
 
 returns : tie.Need-returns
-returns c = halves-stored _ 4 4 _ (search needs) (c .before .before .before .before .before .before .put-u32 .ensures) (c .before .before .put-u322 .ensures)
+returns c =
+    let at-put-u322 = c .before .before in
+    let at-put-u32 = at-put-u322 .before .before .before .before in
+    halves-stored _ 4 4 _ (search needs) (at-put-u32 .put-u32 .ensures) (at-put-u322 .put-u322 .ensures)
 
 pub put-u64-spec : {M : Type 1} → statement M
 put-u64-spec =

@@ -1,5 +1,4 @@
 -- `tlv_writer::put_u8` meets its contract. Assumes nothing.
-use native.Mathlib.Omega.{arith}
 use borrow.Author.Needs.{needs}
 use Rattle.tlv_writer.proofs.Numbers.{byte-stored}
 use Rattle.tlv_writer.proofs.put_u8.Statement.{statement}

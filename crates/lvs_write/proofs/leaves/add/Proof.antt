@@ -1,5 +1,4 @@
 -- `leaves::add` meets its contract. Assumes nothing.
-use native.Mathlib.Omega.{arith}
 use borrow.Author.Needs.{needs}
 use Rattle.lvs_write.proofs.Places.{cap-full}
 use Rattle.lvs_write.proofs.leaves.add.Statement.{statement}

@@ -1,5 +1,4 @@
 -- `leaves::element_size` meets its contract. Assumes nothing.
-use native.Mathlib.Omega.{arith}
 use borrow.Author.Needs.{needs}
 use Rattle.lvs_write.proofs.Places.{size-of}
 use Rattle.lvs_write.proofs.leaves.element_size.Statement.{statement}

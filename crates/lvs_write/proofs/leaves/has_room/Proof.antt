@@ -1,6 +1,4 @@
 -- `leaves::has_room` meets its contract. Assumes nothing.
-use native.Mathlib.Omega.{arith}
-use borrow.Author.Needs.{needs}
 use Rattle.lvs_write.proofs.Places.{room-before, room-behind}
 use Rattle.lvs_write.proofs.leaves.has_room.Statement.{statement}
 use Rattle.lvs_write.proofs.leaves.has_room.Tie as tie

@@ -1,5 +1,4 @@
 -- `leaves::integer_width` meets its contract. Assumes nothing.
-use native.Mathlib.Omega.{arith}
 use borrow.Author.Needs.{needs}
 use Rattle.lvs_write.proofs.Places.{width-1, width-2, width-4, width-8}
 use Rattle.lvs_write.proofs.leaves.integer_width.Statement.{statement}

@@ -1,5 +1,4 @@
 -- `leaves::put_component` meets its contract. Assumes nothing.
-use native.Mathlib.Omega.{arith}
 use borrow.Author.Needs.{needs}
 use Rattle.lvs_write.proofs.Places.{header-fits, component-size, component-small, component-stored, puts-none}
 use Rattle.lvs_write.proofs.leaves.put_component.Statement.{statement}
@@ -9,13 +8,31 @@ element-size-requires-2 : tie.Need-element-size-requires-2
 element-size-requires-2 c κs = component-small _ (c .before .before .before .args .src .now) (c .element-size .ensures) (search needs)
 
 put-header-requires : tie.Need-put-header-requires
-put-header-requires c κs = header-fits _ _ _ (c .before .before .before .element-size2 .ensures) (c .before .before .before .before .before .before .before .args .out .now) (c .before .before .has-room .ensures) (c .before .if1 .taken)
+put-header-requires c κs =
+    let at-if1 = c .before in
+    let at-has-room = at-if1 .before in
+    let at-element-size2 = at-has-room .before in
+    header-fits _ _ _ (at-element-size2 .element-size2 .ensures) _ (at-has-room .has-room .ensures) (at-if1 .if1 .taken)
 
 returns : tie.Need-returns
-returns c = component-stored _ _ _ _ (c .before .before .before .before .before .before .before .before .before .before .before .element-size .ensures) (c .before .before .before .before .before .before .before .before .before .before .element-size2 .ensures) (c .before .before .before .before .before .before .before .before .before .before .before .before .before .before .args .out .now) (c .before .before .before .before .before .before .before .before .before .has-room .ensures) (c .before .before .before .before .before .before .before .before .if1 .taken) (c .before .before .before .before .before .before .put-header .ensures) (c .before .before .put-text .ensures)
+returns c =
+    let at-put-text = c .before .before in
+    let at-put-header = at-put-text .before .before .before .before in
+    let at-if1 = at-put-header .before .before in
+    let at-has-room = at-if1 .before in
+    let at-element-size2 = at-has-room .before in
+    let at-element-size = at-element-size2 .before in
+    component-stored _ _ _ _ (at-element-size .element-size .ensures)
+    (at-element-size2 .element-size2 .ensures) (at-has-room .has-room .ensures)
+    (at-if1 .if1 .taken) (at-put-header .put-header .ensures) (at-put-text .put-text .ensures)
 
 returns-2 : tie.Need-returns-2
-returns-2 c = puts-none _ _ _ (c .before .before .element-size2 .ensures) (component-size _ _ (c .before .before .before .element-size .ensures)) (c .before .has-room .ensures) (c .if1 .left)
+returns-2 c =
+    let at-has-room = c .before in
+    let at-element-size2 = at-has-room .before in
+    let at-element-size = at-element-size2 .before in
+    puts-none _ _ _ (at-element-size2 .element-size2 .ensures) (component-size _ _ (at-element-size .element-size .ensures))
+    (at-has-room .has-room .ensures) (c .if1 .left)
 
 pub put-component-spec : {M : Type 1} → statement M
 put-component-spec =

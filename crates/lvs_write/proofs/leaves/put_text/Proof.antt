@@ -1,5 +1,4 @@
 -- `leaves::put_text` meets its contract. Assumes nothing.
-use native.Mathlib.Omega.{arith}
 use borrow.Author.Needs.{needs}
 use Rattle.lvs_write.proofs.Places.{header-fits, inside-fits, puts-all, puts-none}
 use mathlib.Core.Path.{refl}
@@ -7,13 +6,27 @@ use Rattle.lvs_write.proofs.leaves.put_text.Statement.{statement}
 use Rattle.lvs_write.proofs.leaves.put_text.Tie as tie
 
 put-header-requires : tie.Need-put-header-requires
-put-header-requires c κs = header-fits _ _ _ (c .before .before .before .element-size .ensures) (c .before .before .before .before .before .before .args .out .now) (c .before .before .has-room .ensures) (c .before .if1 .taken)
+put-header-requires c κs =
+    let at-if1 = c .before in
+    let at-has-room = at-if1 .before in
+    let at-element-size = at-has-room .before in
+    header-fits _ _ _ (at-element-size .element-size .ensures) _ (at-has-room .has-room .ensures) (at-if1 .if1 .taken)
 
 put-bytes-requires : tie.Need-put-bytes-requires
-put-bytes-requires c κs = inside-fits _ _ _ (c .before .before .before .before .before .before .before .element-size .ensures) (c .before .before .before .before .before .before .before .before .before .before .args .out .now) _ (c .before .before .before .before .before .before .has-room .ensures) (c .before .before .before .before .before .if1 .taken) (c .before .before .before .put-header .ensures)
+put-bytes-requires c κs =
+    let at-put-header = c .before .before .before in
+    let at-if1 = at-put-header .before .before in
+    let at-has-room = at-if1 .before in
+    let at-element-size = at-has-room .before in
+    inside-fits _ _ _ (at-element-size .element-size .ensures) (at-has-room .has-room .ensures)
+    (at-if1 .if1 .taken) (at-put-header .put-header .ensures)
 
 returns : tie.Need-returns
-returns c = puts-all _ _ _ (c .before .before .before .before .before .before .before .before .before .before .element-size .ensures) refl (c .before .before .before .before .before .before .put-header .ensures) (c .before .before .put-bytes .ensures)
+returns c =
+    let at-put-bytes = c .before .before in
+    let at-put-header = at-put-bytes .before .before .before .before in
+    let at-element-size = at-put-header .before .before .before .before in
+    puts-all _ _ _ (at-element-size .element-size .ensures) refl (at-put-header .put-header .ensures) (at-put-bytes .put-bytes .ensures)
 
 returns-2 : tie.Need-returns-2
 returns-2 c = puts-none _ _ _ (c .before .before .element-size .ensures) refl (c .before .has-room .ensures) (c .if1 .left)

@@ -1,5 +1,4 @@
 -- `leaves::write_text` meets its contract. Assumes nothing.
-use native.Mathlib.Omega.{arith}
 use borrow.Author.Needs.{needs}
 use borrow.Author.Tests.{not-true, not-false}
 use Rattle.lvs_write.proofs.Moves.{leaf-wrote, leaf-stopped}
@@ -9,12 +8,20 @@ use Rattle.lvs_write.proofs.leaves.write_text.Statement.{statement}
 use Rattle.lvs_write.proofs.leaves.write_text.Tie as tie
 
 returns : tie.Need-returns
-returns c = leaf-stopped (c .before .before .before .take-text .ensures .taken) (λ s. el (c .before .before .before .before .before .before .before .args .typ) s) (text-spelled _) (not-true _ (c .if1 .taken))
+returns c =
+    let at-take-text = c .before .before .before in
+    let at-args = at-take-text .before .before .before .before in
+    leaf-stopped (at-take-text .take-text .ensures .taken) (λ s. el (at-args .args .typ) s) (text-spelled _) (not-true _ (c .if1 .taken))
 
 returns-2 : tie.Need-returns-2
 returns-2 c =
-    leaf-wrote (c .before .before .before .before .before .before .before .before .before .take-text .ensures .taken) (λ s. el (c .before .before .before .before .before .before .before .before .before .before .before .before .before .args .typ) s) (text-spelled _) (not-false _ (c .before .before .before .before .before .before .if1 .left)) (c .moved .ensures)
-    (c .before .before .before .put-text .ensures .size-is) (c .before .before .before .put-text .ensures .put)
+    let at-put-text = c .before .before .before in
+    let at-if1 = at-put-text .before .before .before in
+    let at-take-text = at-if1 .before .before .before in
+    let at-args = at-take-text .before .before .before .before in
+    leaf-wrote (at-take-text .take-text .ensures .taken) (λ s. el (at-args .args .typ) s)
+    (text-spelled _) (not-false _ (at-if1 .if1 .left)) (c .moved .ensures)
+    (at-put-text .put-text .ensures .size-is) (at-put-text .put-text .ensures .put)
 
 pub write-text-spec : {M : Type 1} → statement M
 write-text-spec =

@@ -1,5 +1,4 @@
 -- `lists::take_number` meets its contract. Assumes nothing.
-use native.Mathlib.Omega.{arith}
 use borrow.Author.Needs.{needs}
 use borrow.Author.Tests.{not-true, not-false}
 use Rattle.lvs_write.proofs.Places.{number-not, number-out, number-taken}

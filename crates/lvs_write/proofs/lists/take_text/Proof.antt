@@ -1,12 +1,14 @@
 -- `lists::take_text` meets its contract. Assumes nothing.
-use native.Mathlib.Omega.{arith}
 use borrow.Author.Needs.{needs}
 use Rattle.lvs_write.proofs.Places.{text-long, text-taken}
 use Rattle.lvs_write.proofs.lists.take_text.Statement.{statement}
 use Rattle.lvs_write.proofs.lists.take_text.Tie as tie
 
 returns : tie.Need-returns
-returns c = text-long _ _ _ (c .before .before .before .before .take-number .ensures) (c .before .before .least .ensures) (search needs) (search needs)
+returns c =
+    let at-least = c .before .before in
+    let at-take-number = at-least .before .before in
+    text-long _ _ _ (at-take-number .take-number .ensures) (at-least .least .ensures) (search needs) (search needs)
 
 returns-2 : tie.Need-returns-2
 returns-2 c = text-taken _ _ _ (c .before .before .before .take-number .ensures) (c .before .least .ensures) (search needs)

@@ -8,10 +8,17 @@ returns : tie.Need-returns
 returns c = parent-absent (c .before .before .take-number .ensures) (c .match .keys1)
 
 returns-2 : tie.Need-returns-2
-returns-2 c = parent-there (c .before .before .before .before .before .before .take-number .ensures) (c .before .before .before .before .match .keys2) (c .before .before .write-integer .ensures)
+returns-2 c =
+    let at-write-integer = c .before .before in
+    let at-match = at-write-integer .before .before in
+    let at-take-number = at-match .before .before in
+    parent-there (at-take-number .take-number .ensures) (at-match .match .keys2) (at-write-integer .write-integer .ensures)
 
 returns-3 : tie.Need-returns-3
-returns-3 c = parent-other (c .before .before .before .take-number .ensures) (c .before .match .rest .0 .1) (c .before .match .rest .1) (c .stopped .ensures)
+returns-3 c =
+    let at-match = c .before in
+    let at-take-number = at-match .before .before in
+    parent-other (at-take-number .take-number .ensures) (at-match .match .rest .0 .1) (at-match .match .rest .1) (c .stopped .ensures)
 
 pub write-parent-spec : {M : Type 1} → statement M
 write-parent-spec =

@@ -6,7 +6,10 @@ use Rattle.lvs_write.proofs.parts.write_symbol.Statement.{statement}
 use Rattle.lvs_write.proofs.parts.write_symbol.Tie as tie
 
 returns : tie.Need-returns
-returns c = wrote-as symbol-parts (then-wrote (c .before .before .before .before .before .before .write-integer .ensures _) (c .before .before .write-text .ensures) (search needs))
+returns c =
+    let at-write-text = c .before .before in
+    let at-write-integer = at-write-text .before .before .before .before in
+    wrote-as symbol-parts (then-wrote (at-write-integer .write-integer .ensures _) (at-write-text .write-text .ensures) (search needs))
 
 pub write-symbol-spec : {M : Type 1} → statement M
 write-symbol-spec =

@@ -6,7 +6,10 @@ use Rattle.lvs_write.proofs.parts.write_value_edge.Statement.{statement
 use Rattle.lvs_write.proofs.parts.write_value_edge.Tie as tie
 
 returns : tie.Need-returns
-returns c = wrote-as value-edge-parts (then-wrote (c .before .before .before .before .before .before .write-integer .ensures _) (c .before .before .write-component .ensures) (search needs))
+returns c =
+    let at-write-component = c .before .before in
+    let at-write-integer = at-write-component .before .before .before .before in
+    wrote-as value-edge-parts (then-wrote (at-write-integer .write-integer .ensures _) (at-write-component .write-component .ensures) (search needs))
 
 pub write-value-edge-spec : {M : Type 1} → statement M
 write-value-edge-spec =
