@@ -7,13 +7,13 @@
 --
 -- `descriptionOf ns ts`: the model that two lists describe, if they describe one; `numbersOf m` and `textsOf m`: the lists that describe m;
 -- `modelBytes m`: the bytes that m is written as (crates/lvs_description/specs/Description.antt). `onFront xs before`: xs over the front of a
--- list, and what is behind stays.
+-- list, and what is behind stays. `Room m ns ts`: both lists have room for those of m. `Bytes b`: every entry of b is a byte.
 use Prim.Native.Nat.{ℕ, _≤_, _<_}
 use mathlib.Core.Path.{_≡_, sym, ap, _∙_, subst}
 use mathlib.Core.Logic.{_⊎_, inl, inr}
 use mathlib.Core.List.{List, List·Memᴰ}
 use mathlib.Core.Option.{none, some}
-use lib.ListN.{length, take}
+use lib.ListN.{length, take, drop}
 use contract.Lifetimes.{Lfts}
 use denote.Ref.{at-last}
 use Rattle.tlv.specs.Bytes.{Bytes}
@@ -126,7 +126,17 @@ module _ {ns ts before after : List ℕ} where
   -- where `written n` is answered, the lists describe a model whose bytes are accepted, these are n bytes and the first of the output, and the
   -- bytes behind them are as they were (the fields of `WrittenBy`)
   pub written-by : {n : ℕ} → Wrote ns ts before (writings.Written n) after → WrittenBy ns ts before n after
-  written-by {n} c = rw (left c) at (calls.written-by ns ts before (answered c))
+  written-by c = rw (left c) at (calls.written-by ns ts before (answered c))
+
+  -- so the bytes of the description are in front, and what is behind stays
+  pub written-front : {n : ℕ} {m : Model} → Wrote ns ts before (writings.Written n) after → descriptionOf ns ts ≡ some m → take n after ≡ modelBytes m
+  written-front {n} {m} c d =
+      let k = written-by c in
+      let x : k .model ≡ m = cc (k .is, d) in
+      k .front ∙ ap modelBytes x
+
+  pub written-behind : {n : ℕ} → Wrote ns ts before (writings.Written n) after → drop n after ≡ drop n before
+  written-behind c = written-by c .behind
 
 -- ---- the describing call
 
@@ -180,6 +190,15 @@ module _ {b ns ts numbers texts : List ℕ} where
   -- is as it was (the fields of `DescribedBy`)
   pub described-by : {n t : ℕ} → Described b ns ts (describings.Described n t) numbers texts → DescribedBy b ns ts n t numbers texts
   described-by c = rw (numbers-left c, texts-left c) at (calls.described-by b ns ts (told c))
+
+  -- so the lists of the model are in front, and what is behind stays
+  pub described-front : {n t : ℕ} → Described b ns ts (describings.Described n t) numbers texts
+      → (take n numbers ≡ numbersOf (modelOf b)) × (take t texts ≡ textsOf (modelOf b))
+  described-front c = let k = described-by c in (k .numbers-front, k .texts-front)
+
+  pub described-behind : {n t : ℕ} → Described b ns ts (describings.Described n t) numbers texts
+      → (drop n numbers ≡ drop n ns) × (drop t texts ≡ drop t ts)
+  described-behind c = let k = described-by c in (k .numbers-behind, k .texts-behind)
 
 -- ---- reading what was written gives the description back
 
