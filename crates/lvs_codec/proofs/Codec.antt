@@ -10,7 +10,7 @@
 -- list, and what is behind stays. `Room m ns ts`: both lists have room for those of m. `Bytes b`: every entry of b is a byte.
 use Prim.Native.Nat.{ℕ, _≤_, _<_}
 use mathlib.Core.Path.{_≡_, sym, ap, _∙_, subst}
-use mathlib.Core.Logic.{_⊎_, inl, inr}
+use mathlib.Core.Logic.{_⊎_, inl, inr, ⊎-elim}
 use mathlib.Core.List.{List, List·Memᴰ}
 use mathlib.Core.Option.{none, some}
 use lib.ListN.{length, take, drop}
@@ -19,7 +19,7 @@ use denote.Ref.{at-last}
 use Rattle.tlv.specs.Bytes.{Bytes}
 use Rattle.lvs_spec.specs.Model.{Model, modelOf}
 use Rattle.lvs_spec.specs.Verdict.{accepted, refused, describes, reading, verdict}
-use Rattle.lvs_spec.specs.Answers.{Outcome, Refusal, plain}
+use Rattle.lvs_spec.specs.Answers.{Outcome, Refusal}
 use Rattle.lvs_spec.specs.Demands.{Alike}
 use Rattle.lvs.specs.declared.Verdict.{Verdict}
 use Rattle.lvs.specs.declared.Verdict.the-variants as verdicts
@@ -293,12 +293,10 @@ module _ {ns ts before after : List ℕ} {m : Model} (is : descriptionOf ns ts �
       → (r ≡ writings.Refused number node) × (after ≡ before)
   refused-as-judged j c = write-refused c is (sym (judged-is j))
 
-  -- and the other way round, but for 31: an output that is too short for bytes that would be accepted
+  -- and the other way round, but for 31, where `judge_model` accepts
   pub judged-as-refused : {number node : ℕ} {r : Verdict} → Wrote ns ts before (writings.Refused number node) after → Judged (modelBytes m) r
-      → (r ≡ verdicts.Refused number node) ⊎ ((number ≡ shortOutput) × (node ≡ 0))
-  judged-as-refused {number} {node} {r} c j = go (calls.write-why ns ts before (answered c) is)
-    where
-      go : (verdict (modelBytes m) ≡ refused number node) ⊎ (_≡_ {A = Refusal} (record { number = number; node = node }) (plain shortOutput))
-          → (r ≡ verdicts.Refused number node) ⊎ ((number ≡ shortOutput) × (node ≡ 0))
-      go (inl v) = inl (same-verdict r (verdicts.Refused number node) (judged-is j ∙ v))
-      go (inr e) = inr (ap (λ (x : Refusal). x .number) e, ap (λ (x : Refusal). x .node) e)
+      → (r ≡ verdicts.Refused number node) ⊎ ((number ≡ shortOutput) × (count : ℕ) × (r ≡ verdicts.Accepted count))
+  judged-as-refused {number} {node} {r} c j =
+      ⊎-elim (λ v. inl (same-verdict r (verdicts.Refused number node) (judged-is j ∙ v)))
+      (λ (e, count, v). inr (ap (λ (x : Refusal). x .number) e, count, same-verdict r (verdicts.Accepted count) (judged-is j ∙ v)))
+      (calls.write-why ns ts before (answered c) is)

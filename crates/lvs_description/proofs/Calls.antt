@@ -108,13 +108,15 @@ module _ {ns ts before : List ℕ} where
 
   -- why a description was refused
   why-in : {o : WriteOutcome} {x : Refusal} {m : Model} → Writing ns ts before o → o .answer ≡ WriteAnswer.refused x → descriptionOf ns ts ≡ some m
-      → (verdict (modelBytes m) ≡ Verdict.refused (x .number) (x .node)) ⊎ (x ≡ plain shortOutput)
+      → (verdict (modelBytes m) ≡ Verdict.refused (x .number) (x .node)) ⊎ ((x ≡ plain shortOutput) × (count : ℕ) × (verdict (modelBytes m) ≡ accepted count))
   why-in (no-description e) h d = clash (cc)
   why-in {x = x} {m} (refused-bytes {m = m′} {r} {i} e v) h d =
       let same : m′ ≡ m = cc in
       let y : record { number = r; node = i } ≡ x = cc in
       inl (sym (ap (λ (a : Model). verdict (modelBytes a)) same) ∙ v ∙ ap (λ (a : Refusal). Verdict.refused (a .number) (a .node)) y)
-  why-in (short-output e v l) h d = inr (cc)
+  why-in {m = m} (short-output {m = m′} {count} e v l) h d =
+      let same : m′ ≡ m = cc in
+      inr ((cc), count, sym (ap (λ (a : Model). verdict (modelBytes a)) same) ∙ v)
   why-in (on-output e v l) h d = clash (cc)
 
   number-in : {o : WriteOutcome} {x : Refusal} → Writing ns ts before o → o .answer ≡ WriteAnswer.refused x → List·Memᴰ (x .number) writeRefusals
@@ -135,9 +137,9 @@ module _ (ns ts before : List ℕ) where
   pub write-keeps : {x : Refusal} → writeOutcome ns ts before .answer ≡ WriteAnswer.refused x → writeOutcome ns ts before .output ≡ before
   write-keeps h = kept-in (writing ns ts before) h
 
-  -- a description is refused with the two numbers of the verdict on its bytes, or with 31
+  -- a description is refused with the two numbers of the verdict on its bytes, or, where these are accepted, with 31
   pub write-why : {x : Refusal} {m : Model} → writeOutcome ns ts before .answer ≡ WriteAnswer.refused x → descriptionOf ns ts ≡ some m
-      → (verdict (modelBytes m) ≡ Verdict.refused (x .number) (x .node)) ⊎ (x ≡ plain shortOutput)
+      → (verdict (modelBytes m) ≡ Verdict.refused (x .number) (x .node)) ⊎ ((x ≡ plain shortOutput) × (count : ℕ) × (verdict (modelBytes m) ≡ accepted count))
   write-why h d = why-in (writing ns ts before) h d
 
   -- the numbers of the refusals
