@@ -92,7 +92,7 @@ abbrev pub sizeOf : Option Model → Size
 sizeOf none = Size.Nothing
 sizeOf (some m) = Size.Bytes (capped (length (modelBytes m)))
 
--- the bytes of the description were put at the front, and r says how many
+-- the bytes of the description were put at the front, where there is room for them
 pub record Written (ns ts before now : List ℕ) : Type 0 where
   pub put : (m : Model) → descriptionOf ns ts ≡ some m → length (modelBytes m) ≤ maxModelBytes → length (modelBytes m) ≤ length before
       → Stored before now 0 (modelBytes m)
