@@ -1,22 +1,23 @@
 // The parts of a description that hold no row of others.
+ghost use mathlib.Core.Path.{_≡_};
 ghost use mathlib.Core.List.{List};
 ghost use Prim.Native.Nat.{ℕ};
+ghost use lib.ListN.{length};
 ghost use Rattle.lvs_spec.specs.Types as type;
 ghost use Rattle.lvs_spec.specs.Model.{componentOf, argumentOf, valueEdgeOf, symbolOf};
 ghost use Rattle.lvs_description.specs.Format.{put, component};
 ghost use Rattle.lvs_description.specs.Description.{argument, valueEdge, symbol};
 ghost use Rattle.lvs_describe.specs.Parts.{shown};
 ghost use Rattle.lvs_describe.specs.Lent.{state, Describes};
-ghost use Rattle.lvs_describe.specs.Sorts.{own};
+ghost use Rattle.lvs_describe.specs.Sorts.{own, itemsOf};
+ghost use Rattle.lvs_describe.specs.declared.Sort.the-variants as sort;
 ghost use Rattle.lvs_describe.specs.Found.{ComponentAt, ArgumentAt};
 use crate::Component;
 use crate::Held;
 use crate::Room;
-use crate::Sort;
 use crate::lists::put_number;
 use crate::lists::put_numbered;
 use crate::lists::put_pair;
-use crate::rows::count_items;
 use lvs_spec::types::IDENTIFIER;
 use lvs_spec::types::NODE_ID;
 use lvs_spec::types::PARENT;
@@ -25,8 +26,9 @@ use lvs_spec::types::VALUE;
 use tlv::Place;
 use tlv::Read;
 
-// What a Node says of itself: its id; 0, or 1 and its Parent.
-pub(crate) fn put_own(node: &[u8], numbers: &mut [u64], room: Room) -> Room
+// What a Node says of itself: its id; 0, or 1 and its Parent. `parents` is how many Parents it has.
+pub(crate) fn put_own(node: &[u8], parents: usize, numbers: &mut [u64], room: Room) -> Room
+    requires { ⌜ parents ≡ length (itemsOf sort.Parent (now node)) ⌝ }
     ensures { λ r.
         ⌜
         ((ts : List ℕ) →
@@ -34,7 +36,7 @@ pub(crate) fn put_own(node: &[u8], numbers: &mut [u64], room: Room) -> Room
         ⌝ }
 {
     let id = tlv::number_in(node, NODE_ID);
-    if count_items(node, Sort::Parent) < 1 {
+    if parents < 1 {
         return put_pair(id, 0, numbers, room);
     }
     let rest = put_number(id, numbers, room);
