@@ -12,7 +12,8 @@ use Rattle.tlv.specs.Fields.{numberOf}
 use Rattle.tlv.specs.Number.{integer}
 use Rattle.tlv.specs.declared.Place.{Place}
 use Rattle.tlv.proofs.Cuts.{Step}
-use Rattle.tlv.proofs.Gathered.{Stop, over, each-one, each-none, each-stop, Gathered, started, passed, took, ended, listed, rest-is, counted, one-left, each-most}
+use Rattle.tlv.proofs.Gathered.{Stop, over, each-one, each-none, each-stop, each-most}
+use Rattle.tlv.proofs.Gathered.{Gathered, started, passed, took, ended, listed, rest-is, counted, one-left}
 use Rattle.lvs_spec.specs.Types as type
 use Rattle.lvs_spec.specs.Model.{Argument, componentOf, componentFrom, argumentFrom, argumentOf}
 use Rattle.lvs_describe.specs.Found.{part, ComponentAt, heldBy, ArgumentAt}

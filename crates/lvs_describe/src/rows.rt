@@ -14,6 +14,7 @@ use crate::lists::put_number;
 use crate::lists::put_numbered;
 use crate::lists::put_pair;
 use crate::lists::put_text;
+use crate::parts::number_put;
 use crate::parts::put_argument;
 use crate::parts::put_component;
 use crate::parts::put_own;
@@ -151,8 +152,9 @@ fn put_pattern_edge(b: &[u8], numbers: &mut [u64], texts: &mut [u8], room: Room)
         (state room (now (numbers .entry)) (now (texts .entry))) (state r (now (numbers .exit)) (now (texts .exit)))
         ⌝ }
 {
-    let destination = tlv::number_in(b, NODE_ID);
-    let rest = put_pair(destination, tlv::number_in(b, TAG), numbers, room);
+    let destination = number_put(b, NODE_ID, numbers, room);
+    let tag = number_put(b, TAG, numbers, room);
+    let rest = put_pair(destination, tag, numbers, room);
     put_row(b, Sort::Constraint, numbers, texts, rest)
 }
 

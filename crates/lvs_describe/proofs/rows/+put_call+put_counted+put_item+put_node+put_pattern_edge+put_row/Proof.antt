@@ -1,5 +1,5 @@
--- `lvs_describe::rows::put_row`, `put_counted`, `put_item` and the containers that hold rows meet their contracts. Each call from one to another is on the same bytes
--- or on a part of them that is shorter. Assumes nothing.
+-- `lvs_describe::rows::put_row`, `put_counted`, `put_item` and the containers that hold rows meet their contracts. Each call from one to another is on
+-- the same bytes or on a part of them that is shorter. Assumes nothing.
 use Prim.Native.Nat.{ℕ, _<_, _+_, _*_, _-_}
 use mathlib.Core.Path.{sym, _∙_}
 use native.Mathlib.Omega.{arith}
@@ -36,6 +36,7 @@ use Rattle.lvs_describe.proofs.lists.put_number.Reads as put-number-rea
 use Rattle.lvs_describe.proofs.lists.put_numbered.Reads as put-numbered-reads
 use Rattle.lvs_describe.proofs.lists.put_pair.Reads as put-pair-reads
 use Rattle.lvs_describe.proofs.lists.put_text.Reads as put-text-reads
+use Rattle.lvs_describe.proofs.parts.number_put.Reads as number-put-reads
 use Rattle.lvs_describe.proofs.parts.put_argument.Reads as put-argument-reads
 use Rattle.lvs_describe.proofs.parts.put_component.Reads as put-component-reads
 use Rattle.lvs_describe.proofs.parts.put_own.Reads as put-own-reads
@@ -46,7 +47,6 @@ use Rattle.lvs_describe.proofs.rows.count_items.Reads as count-items-re
 use Rattle.lvs_describe.proofs.rows.is_of.Reads as is-of-reads
 use Rattle.tlv.proofs.Place.element.Reads as element-reads
 use Rattle.tlv.proofs.inside_of.Reads as inside-of-reads
-use Rattle.tlv.proofs.number_in.Reads as number-in-reads
 use Rattle.tlv.proofs.number_of.Reads as number-of-reads
 use Rattle.lvs_describe.proofs.rows.+put_call+put_counted+put_item+put_node+put_pattern_edge+put_row.{statement}
 use Rattle.lvs_describe.proofs.rows.+put_call+put_counted+put_item+put_node+put_pattern_edge+put_row.Tie.{close}
@@ -323,7 +323,8 @@ put-node-returns t c =
     let values = patterns .before .before .before .before .before .before .before in
     let names = values .before .before .before .before .before .before .before in
     let own = names .before .before .before .before .before in
-    node-put _ (own .put-own .ensures _) (names .put-counted .ensures) (values .put-counted2 .ensures) (patterns .put-counted3 .ensures) (signers .put-counted4 .ensures)
+    node-put _ (own .put-own .ensures _) (names .put-counted .ensures) (values .put-counted2 .ensures) (patterns .put-counted3 .ensures)
+    (signers .put-counted4 .ensures)
 
 put-node-same-length : (t : ℕ) → put-node-need put-node-lts.Need-same-length t
 put-node-same-length t c = put-node-returns t c .numbers-are .kept
@@ -335,8 +336,8 @@ put-node-same-length-2 t c = put-node-returns t c .texts-are .kept
 
 abbrev put-pattern-edge-calls : ℕ → edge-lts.Claims
 put-pattern-edge-calls t = (
-  number-in-reads.Asked,
-  number-in-reads.Learnt,
+  number-put-reads.Asked,
+  number-put-reads.Learnt,
   put-pair-reads.Asked,
   put-pair-reads.Learnt,
   put-row-below t,
@@ -350,14 +351,15 @@ put-pattern-edge-need N t = N (put-pattern-edge-calls t) (put-pattern-edge-at t)
 put-pattern-edge-put-row-requires : (t : ℕ) → put-pattern-edge-need edge-lts.Need-put-row-requires t
 put-pattern-edge-put-row-requires t c κs =
     let pair = c .before .before .before .before in
-    (omega (arith, pair .before .before .before .before .before .before .before .pre .0), tt)
+    let destination = pair .before .before .before .before in
+    (omega (arith, destination .before .before .before .before .before .pre .0), tt)
 
 put-pattern-edge-returns : (t : ℕ) → put-pattern-edge-need edge-lts.Need-returns t
 put-pattern-edge-returns t c =
     let constraints = c .before .before .before .before in
     let pair = constraints .before .before .before .before .before in
-    let destination = pair .before .before .before in
-    pattern-edge-put _ (destination .number-in .ensures) (pair .before .before .number-in2 .ensures) (pair .put-pair .ensures _)
+    let tag = pair .before .before in
+    pattern-edge-put _ (tag .before .before .number-put .ensures) (tag .number-put2 .ensures) (pair .put-pair .ensures _)
     (constraints .put-row .ensures)
 
 -- ---- put_counted
@@ -382,7 +384,8 @@ abbrev μ : put-counted-lts.MeasureT-loop
 μ s sort count numbers₀ texts₀ rest₀ place₀ numbers texts rest place = length s - place .at
 
 abbrev put-counted-need
-    : (put-counted-lts.Claims → In 3 put-counted-kinds.ps → Out 3 put-counted-kinds.ps put-counted-kinds.r → put-counted-lts.InvT-loop → put-counted-lts.MeasureT-loop → Type 0)
+    : (put-counted-lts.Claims → In 3 put-counted-kinds.ps → Out 3 put-counted-kinds.ps put-counted-kinds.r
+    → put-counted-lts.InvT-loop → put-counted-lts.MeasureT-loop → Type 0)
     → ℕ → Type 0
 put-counted-need N t = N (put-counted-calls t) (put-counted-at t) put-counted.Post Inv μ
 
