@@ -21,7 +21,7 @@ use Rattle.lvs_describe.specs.declared.Component.{Component}
 use Rattle.lvs_describe.specs.declared.Held.{Held}
 use Rattle.lvs_describe.specs.declared.Sort.{Sort}
 use Rattle.lvs_describe.specs.declared.Sort.the-variants as sort
-use Rattle.lvs_describe.proofs.Puts.{describes-then}
+use Rattle.lvs_describe.proofs.Puts.{describes-then, any-first, any-second}
 use Rattle.lvs_describe.proofs.Appended.{Appended, integer-appended, text-appended, maybe-appended, many-appended, within-appended}
 use Rattle.lvs_describe.proofs.Appended.{valueEdge-appended, patternEdge-appended, node-appended}
 use Rattle.lvs_describe.proofs.Items.{Row, nodes-are, symbols-are, names-are, values-are, patterns-are, signers-are, constraints-are, options-are}
@@ -67,10 +67,10 @@ module _ (b : List ℕ) {s s₁ : State} where
   unfolding own shown
   no-parent-put g e h d = rw (no-parent b e h, ← g) d
 
-  pub value-edge-put : {n : ℕ} {p : Part} → n ≡ theInteger type.NodeId b → InsideOf b type.Value p
+  pub value-edge-put : {n : ℕ} {p : Part} → (s .room .numbers ≤ length (s .numbers) → n ≡ theInteger type.NodeId b) → InsideOf b type.Value p
       → Describes (put n (shown (component type.Value) (componentOf (part b (p .start) (p .end))))) s s₁ → Describes (shown valueEdge (valueEdgeOf b)) s s₁
   unfolding shown valueEdgeOf
-  value-edge-put e at d = rw (← e, ← (at .is)) d
+  value-edge-put e at d = rw (← (at .is)) (any-first e d)
 
   pub symbol-put : {n : ℕ} {p : Part} → n ≡ theInteger type.Tag b → InsideOf b type.Identifier p
       → Describes (put n (putText (part b (p .start) (p .end)) nothing)) s s₁ → Describes (shown symbol (symbolOf b)) s s₁
@@ -98,10 +98,11 @@ module _ (b : List ℕ) {s s₁ s₂ : State} where
       numbered-then (text type.FnId (marked 36)) (theInside type.FnId b) 2 (text-appended type.FnId (marked 36)) (rw (← (at .is)) d)
       (row-puts arguments-are b g)
 
-  pub pattern-edge-put : {n t : ℕ} → n ≡ theInteger type.NodeId b → t ≡ theInteger type.Tag b → Describes (put n (number t)) s s₁
+  pub pattern-edge-put : {n t : ℕ} → (s .room .numbers ≤ length (s .numbers) → n ≡ theInteger type.NodeId b)
+      → (s .room .numbers ≤ length (s .numbers) → t ≡ theInteger type.Tag b) → Describes (put n (number t)) s s₁
       → Describes (rowOf sort.Constraint b) s₁ s₂ → Describes (shown patternEdge (patternEdgeOf b)) s s₂
   unfolding shown patternEdgeOf
-  pattern-edge-put e f d g = rw (← e, ← f) (describes-then d (row-puts constraints-are b g .described))
+  pattern-edge-put e f d g = describes-then (any-second f (any-first e d)) (row-puts constraints-are b g .described)
 
   module _ {s₃ : State} where
     pub model-put : {n c : ℕ} → n ≡ theInteger type.NodeId b → c ≡ theInteger type.NamedPatternCnt b → Describes (put n (number c)) s s₁

@@ -1,23 +1,26 @@
 -- What the readers find, and one turn of each loop over a container's elements, by the law of `tlv`'s Gathered. Assumes nothing.
-use mathlib.Core.Path.{_≡_, sym, ap, _∙_}
-use mathlib.Core.Bool.{Bool, true, false}
+use mathlib.Core.Path.{_≡_, refl, sym, ap, _∙_}
+use mathlib.Core.Bool.{Bool, true, false, cond}
 use mathlib.Core.List.{List, [], _∷_}
-use Prim.Native.Nat.{ℕ, _-_, _≤_, _<_}
+use Prim.Native.Nat.{ℕ, _+_, _-_, _≤_, _<_}
 use native.Mathlib.Omega.{arith}
 use borrow.Author.Tests.{ne-eqb}
-use lib.ListN.{length, drop}
+use lib.ListN.{length, drop, length-append}
 use Rattle.tlv.specs.Element.{Element, end, malformed, element}
 use Rattle.tlv.specs.Lists.{when, firstOr}
 use Rattle.tlv.specs.Fields.{numberOf}
 use Rattle.tlv.specs.Number.{integer}
 use Rattle.tlv.specs.declared.Place.{Place}
 use Rattle.tlv.proofs.Cuts.{Step}
-use Rattle.tlv.proofs.Gathered.{Stop, over, each-one, each-none, each-stop, Gathered, passed, listed, rest-is, counted, one-left, each-most}
+use Rattle.tlv.proofs.Gathered.{Stop, over, each-one, each-none, each-stop, each-most}
+use Rattle.tlv.proofs.Gathered.{Gathered, started, passed, took, ended, listed, rest-is, counted, one-left}
 use Rattle.lvs_spec.specs.Types as type
 use Rattle.lvs_spec.specs.Model.{Argument, componentOf, componentFrom, argumentFrom, argumentOf}
 use Rattle.lvs_describe.specs.Found.{part, ComponentAt, heldBy, ArgumentAt}
-use Rattle.lvs_describe.specs.Sorts.{isOf, itemOf, itemFrom, itemsOf}
+use Rattle.lvs_describe.specs.Sorts.{isOf, oneOf, itemOf, itemFrom, itemsOf, CountsOf}
+use Rattle.lvs_describe.specs.declared.Counts.{Counts}
 use Rattle.lvs_describe.specs.declared.Sort.{Sort}
+use Rattle.lvs_describe.specs.declared.Sort.the-variants as sort
 
 -- ---- the component in a Value
 
@@ -65,6 +68,20 @@ module _ {s : List ℕ} {at : ℕ} (inv : Gathered listed (over argumentFrom) s 
 
 -- ---- the elements of one sort
 
+items-most : (k : Sort) (s : List ℕ) → length (itemsOf k s) ≤ length s
+unfolding itemsOf itemFrom
+items-most k s = each-most (itemFrom k) few s
+  where
+    few : (e : Element) → length (itemFrom k e) ≤ 1
+    few e = go (isOf k (e .type))
+      where
+        go : (p : Bool) → length (when p (itemOf k (e .type) (e .inside))) ≤ 1
+        go true = omega arith
+        go false = omega arith
+
+most-counted : (k : Sort) {s : List ℕ} {at m : ℕ} → Gathered counted (itemsOf k) s at m → m ≤ length s
+most-counted k {s} inv = omega (arith, inv .is, simp length-append at (ap length (inv .whole)), items-most k s)
+
 module _ (k : Sort) {s : List ℕ} {at : ℕ} where
   module _ {t start stop : ℕ} {n : Place} (st : Step s at t start stop n) where
     pub item-found : isOf k t ≡ true → itemsOf k (drop at s) ≡ itemOf k t (part s start stop) ∷ itemsOf k (drop (n .at) s)
@@ -81,12 +98,56 @@ module _ (k : Sort) {s : List ℕ} {at : ℕ} where
 
   -- a count stays below the number of bytes
   pub item-room : {m t start stop : ℕ} {n : Place} → Gathered counted (itemsOf k) s at m → Step s at t start stop n → isOf k t ≡ true → m < length s
-  unfolding itemsOf itemFrom
-  item-room inv st e = omega (arith, one-left inv (item-found st e), each-most (itemFrom k) few s)
-    where
-      few : (e : Element) → length (itemFrom k e) ≤ 1
-      few e = go (isOf k (e .type))
-        where
-          go : (p : Bool) → length (when p (itemOf k (e .type) (e .inside))) ≤ 1
-          go true = omega arith
-          go false = omega arith
+  item-room inv st e = omega (arith, one-left inv (item-found st e), items-most k s)
+
+  -- an element of any type counts 1 or 0
+  module _ {m t start stop r : ℕ} {n : Place} (inv : Gathered counted (itemsOf k) s at m) (st : Step s at t start stop n) (e : r ≡ oneOf k t) where
+    pub item-counted : Gathered counted (itemsOf k) s (n .at) (m + r)
+    unfolding oneOf
+    item-counted = go (isOf k t) refl e
+      where
+        go : (p : Bool) → isOf k t ≡ p → r ≡ cond p 1 0 → Gathered counted (itemsOf k) s (n .at) (m + r)
+        go true f g = took inv (item-found st f) (rw g)
+        go false f g =
+            let z : m + r ≡ m = omega arith in
+            rw z (passed inv (item-other st f))
+
+    pub item-fits : m + r ≤ length s
+    item-fits = most-counted k item-counted
+
+-- ---- how many of each sort a Node holds
+
+-- those before a place
+pub record Tallied (s : List ℕ) (at : ℕ) (c : Counts) : Type 0 where
+  pub parents-in : Gathered counted (itemsOf sort.Parent) s at (c .parents)
+  pub names-in : Gathered counted (itemsOf sort.RuleName) s at (c .names)
+  pub values-in : Gathered counted (itemsOf sort.ValueEdge) s at (c .values)
+  pub patterns-in : Gathered counted (itemsOf sort.PatternEdge) s at (c .patterns)
+  pub signers-in : Gathered counted (itemsOf sort.Signer) s at (c .signers)
+
+pub tally-first : {s : List ℕ} → Tallied s 0 (record { parents = 0; names = 0; values = 0; patterns = 0; signers = 0 })
+tally-first = record { parents-in = started; names-in = started; values-in = started; patterns-in = started; signers-in = started }
+
+module _ {s : List ℕ} {at : ℕ} {c : Counts} (inv : Tallied s at c) where
+  pub tally-next : {t start stop p n v q g : ℕ} {next : Place} → Step s at t start stop next → p ≡ oneOf sort.Parent t → n ≡ oneOf sort.RuleName t
+      → v ≡ oneOf sort.ValueEdge t → q ≡ oneOf sort.PatternEdge t → g ≡ oneOf sort.Signer t
+      → Tallied s (next .at)
+      (record { parents = c .parents + p; names = c .names + n; values = c .values + v; patterns = c .patterns + q; signers = c .signers + g })
+  tally-next st p n v q g =
+      record {
+        parents-in = item-counted _ (inv .parents-in) st p;
+        names-in = item-counted _ (inv .names-in) st n;
+        values-in = item-counted _ (inv .values-in) st v;
+        patterns-in = item-counted _ (inv .patterns-in) st q;
+        signers-in = item-counted _ (inv .signers-in) st g;
+      }
+
+  pub tally-end : Stop s at → CountsOf s c
+  tally-end st =
+      record {
+        parents-are = ended (inv .parents-in) (items-stop _ st);
+        names-are = ended (inv .names-in) (items-stop _ st);
+        values-are = ended (inv .values-in) (items-stop _ st);
+        patterns-are = ended (inv .patterns-in) (items-stop _ st);
+        signers-are = ended (inv .signers-in) (items-stop _ st);
+      }

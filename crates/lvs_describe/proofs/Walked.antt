@@ -1,7 +1,8 @@
 -- The loop over a row: what was put of it, one element after the other. Assumes nothing.
 use mathlib.Core.Path.{_≡_, refl, sym, ap, subst, _∙_}
 use mathlib.Core.List.{List, [], _∷_, _++_, append-nil}
-use Prim.Native.Nat.{ℕ}
+use Prim.Native.Nat.{ℕ, _<_}
+use native.Mathlib.Omega.{arith}
 use lib.ListN.{length, drop}
 use Rattle.tlv.proofs.Gathered.{Gathered, listed, started, passed, took, ended}
 use Rattle.lvs_description.specs.Format.{Lists}
@@ -44,3 +45,13 @@ module _ {k : Sort} {s : List ℕ} {at : ℕ} {before now : State} (w : Walked k
       → Describes (rowOf k s) first now
   unfolding rowOf row
   walk-end e d f = rw (← e, ← (ended (w .gathered) f)) (describes-then d (w .described))
+
+-- there are none
+pub walk-none : (k : Sort) (s : List ℕ) {m : ℕ} {first now : State} → m ≡ length (itemsOf k s) → m < 1 → Describes (number m) first now
+    → Describes (rowOf k s) first now
+unfolding rowOf row
+walk-none k s {m} {first} {now} e h d = go (itemsOf k s) e
+  where
+    go : (ls : List Lists) → m ≡ length ls → Describes (row ls) first now
+    go [] f = rw (← f) d
+    go (x ∷ xs) f = absurd (omega arith)

@@ -1,8 +1,10 @@
 -- The sorts of elements of which a container may hold any number: the types of each, and what one comes to. Definitions only.
 use Prim.Native.Nat.{ℕ}
+use mathlib.Core.Path.{_≡_}
 use mathlib.Core.Bool.{Bool, cond, _||_}
 use mathlib.Core.List.{List}
 use lib.Dec.{eqb}
+use lib.ListN.{length}
 use Rattle.tlv.specs.Element.{Element, cuts}
 use Rattle.tlv.specs.Fields.{eachCut, numberOf, integers, theInteger}
 use Rattle.tlv.specs.Lists.{when, first}
@@ -12,6 +14,7 @@ use Rattle.lvs_spec.specs.Model.{Term as ModelTerm, componentOf, callOf, argume
 use Rattle.lvs_description.specs.Format.{Lists, put, integer, text, maybe}
 use Rattle.lvs_description.specs.Description.{argument, term, option, constraint, valueEdge, patternEdge, node, symbol}
 use Rattle.lvs_describe.specs.Parts.{shown, row}
+use Rattle.lvs_describe.specs.declared.Counts.{Counts}
 use Rattle.lvs_describe.specs.declared.Sort.{Sort}
 use Rattle.lvs_describe.specs.declared.Sort.the-variants.{Node, Symbol, Parent, RuleName, ValueEdge, PatternEdge, Signer, Constraint}
 use Rattle.lvs_describe.specs.declared.Sort.the-variants.{ConstraintOption, Term, Argument}
@@ -32,6 +35,9 @@ isOf Constraint t = eqb t type.Constraint
 isOf ConstraintOption t = eqb t type.ConstraintOption
 isOf Term t = isTerm t
 isOf Argument t = eqb t type.UserFnArg
+
+unfoldable pub oneOf : Sort → ℕ → ℕ
+oneOf k t = cond (isOf k t) 1 0
 
 -- the term that an element of type t with the inside b is
 unfoldable pub termOf : ℕ → List ℕ → ModelTerm
@@ -62,6 +68,14 @@ itemFrom k e = when (isOf k (e .type)) (itemOf k (e .type) (e .inside))
 -- what the elements of one sort come to
 unfoldable pub itemsOf : Sort → List ℕ → List Lists
 itemsOf k b = eachCut (itemFrom k) (cuts b)
+
+-- c is how many of each sort a Node with the inside b holds
+pub record CountsOf (b : List ℕ) (c : Counts) : Type 0 where
+  pub parents-are : c .parents ≡ length (itemsOf Parent b)
+  pub names-are : c .names ≡ length (itemsOf RuleName b)
+  pub values-are : c .values ≡ length (itemsOf ValueEdge b)
+  pub patterns-are : c .patterns ≡ length (itemsOf PatternEdge b)
+  pub signers-are : c .signers ≡ length (itemsOf Signer b)
 
 unfoldable pub rowOf : Sort → List ℕ → Lists
 rowOf k b = row (itemsOf k b)

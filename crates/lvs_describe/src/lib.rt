@@ -36,6 +36,15 @@ enum Sort {
     Argument,
 }
 
+// How many elements of each sort a Node holds.
+struct Counts {
+    parents: usize,
+    names: usize,
+    values: usize,
+    patterns: usize,
+    signers: usize,
+}
+
 // A component in a Value, with the place of its text.
 struct Component {
     typ: u32,

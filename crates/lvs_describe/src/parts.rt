@@ -1,22 +1,24 @@
 // The parts of a description that hold no row of others.
+ghost use mathlib.Core.Path.{_≡_};
 ghost use mathlib.Core.List.{List};
-ghost use Prim.Native.Nat.{ℕ};
+ghost use Prim.Native.Nat.{ℕ, _≤_};
+ghost use lib.ListN.{length};
+ghost use Rattle.tlv.specs.Fields.{theInteger};
 ghost use Rattle.lvs_spec.specs.Types as type;
 ghost use Rattle.lvs_spec.specs.Model.{componentOf, argumentOf, valueEdgeOf, symbolOf};
 ghost use Rattle.lvs_description.specs.Format.{put, component};
 ghost use Rattle.lvs_description.specs.Description.{argument, valueEdge, symbol};
 ghost use Rattle.lvs_describe.specs.Parts.{shown};
 ghost use Rattle.lvs_describe.specs.Lent.{state, Describes};
-ghost use Rattle.lvs_describe.specs.Sorts.{own};
+ghost use Rattle.lvs_describe.specs.Sorts.{own, itemsOf};
+ghost use Rattle.lvs_describe.specs.declared.Sort.the-variants as sort;
 ghost use Rattle.lvs_describe.specs.Found.{ComponentAt, ArgumentAt};
 use crate::Component;
 use crate::Held;
 use crate::Room;
-use crate::Sort;
 use crate::lists::put_number;
 use crate::lists::put_numbered;
 use crate::lists::put_pair;
-use crate::rows::count_items;
 use lvs_spec::types::IDENTIFIER;
 use lvs_spec::types::NODE_ID;
 use lvs_spec::types::PARENT;
@@ -25,8 +27,9 @@ use lvs_spec::types::VALUE;
 use tlv::Place;
 use tlv::Read;
 
-// What a Node says of itself: its id; 0, or 1 and its Parent.
-pub(crate) fn put_own(node: &[u8], numbers: &mut [u64], room: Room) -> Room
+// What a Node says of itself: its id; 0, or 1 and its Parent. `parents` is how many Parents it has.
+pub(crate) fn put_own(node: &[u8], parents: usize, numbers: &mut [u64], room: Room) -> Room
+    requires { ⌜ parents ≡ length (itemsOf sort.Parent (now node)) ⌝ }
     ensures { λ r.
         ⌜
         ((ts : List ℕ) →
@@ -34,11 +37,22 @@ pub(crate) fn put_own(node: &[u8], numbers: &mut [u64], room: Room) -> Room
         ⌝ }
 {
     let id = tlv::number_in(node, NODE_ID);
-    if count_items(node, Sort::Parent) < 1 {
+    if parents < 1 {
         return put_pair(id, 0, numbers, room);
     }
     let rest = put_number(id, numbers, room);
     put_pair(1, tlv::number_in(node, PARENT), numbers, rest)
+}
+
+// The integer in the first element of type `typ` in `b`, where it is to be put. Where `numbers` is shorter than what may be put, nothing is, and any
+// number does.
+pub(crate) fn number_put(b: &[u8], typ: u32, numbers: &[u64], room: Room) -> u64
+    ensures { λ r. ⌜ (room .numbers ≤ length (now (numbers .entry)) → r ≡ theInteger typ (now (b .entry))) ⌝ }
+{
+    if numbers.len() < room.numbers {
+        return 0;
+    }
+    tlv::number_in(b, typ)
 }
 
 pub(crate) fn put_value_edge(b: &[u8], numbers: &mut [u64], texts: &mut [u8], room: Room) -> Room
@@ -48,7 +62,7 @@ pub(crate) fn put_value_edge(b: &[u8], numbers: &mut [u64], texts: &mut [u8], ro
         (state room (now (numbers .entry)) (now (texts .entry))) (state r (now (numbers .exit)) (now (texts .exit)))
         ⌝ }
 {
-    let destination = tlv::number_in(b, NODE_ID);
+    let destination = number_put(b, NODE_ID, numbers, room);
     let part = tlv::inside_of(b, VALUE);
     let start = part.start;
     let end = part.end;

@@ -6,13 +6,15 @@ ghost use Rattle.lvs_description.specs.Format.{put};
 ghost use Rattle.lvs_description.specs.Description.{call, patternEdge, node};
 ghost use Rattle.lvs_describe.specs.Parts.{shown};
 ghost use Rattle.lvs_describe.specs.Lent.{state, Describes};
-ghost use Rattle.lvs_describe.specs.Sorts.{isOf, isTerm, itemOf, itemsOf, rowOf};
+ghost use Rattle.lvs_describe.specs.Sorts.{isOf, isTerm, oneOf, itemOf, itemsOf, CountsOf, rowOf};
+use crate::Counts;
 use crate::Room;
 use crate::Sort;
 use crate::lists::put_number;
 use crate::lists::put_numbered;
 use crate::lists::put_pair;
 use crate::lists::put_text;
+use crate::parts::number_put;
 use crate::parts::put_argument;
 use crate::parts::put_component;
 use crate::parts::put_own;
@@ -50,7 +52,30 @@ pub(crate) fn put_row(
         (state room (now (numbers .entry)) (now (texts .entry))) (state r (now (numbers .exit)) (now (texts .exit)))
         ⌝ }
 {
-    let mut rest = put_number(count_items(s, sort) as u64, numbers, room);
+    let count = count_items(s, sort);
+    put_counted(s, sort, count, numbers, texts, room)
+}
+
+// The same where they are counted already. Where there are none, `s` is not gone through.
+fn put_counted(
+    s: &[u8],
+    sort: Sort,
+    count: usize,
+    numbers: &mut [u64],
+    texts: &mut [u8],
+    room: Room,
+) -> Room
+    requires { ⌜ count ≡ length (itemsOf sort (now s)) ⌝ }
+    ensures { λ r.
+        ⌜
+        Describes (rowOf sort (now (s .entry)))
+        (state room (now (numbers .entry)) (now (texts .entry))) (state r (now (numbers .exit)) (now (texts .exit)))
+        ⌝ }
+{
+    let mut rest = put_number(count as u64, numbers, room);
+    if count < 1 {
+        return rest;
+    }
     let mut place = Place { at: 0 };
     loop {
         match place.element(s) {
@@ -112,11 +137,12 @@ fn put_node(b: &[u8], numbers: &mut [u64], texts: &mut [u8], room: Room) -> Room
         (state room (now (numbers .entry)) (now (texts .entry))) (state r (now (numbers .exit)) (now (texts .exit)))
         ⌝ }
 {
-    let own = put_own(b, numbers, room);
-    let names = put_row(b, Sort::RuleName, numbers, texts, own);
-    let values = put_row(b, Sort::ValueEdge, numbers, texts, names);
-    let patterns = put_row(b, Sort::PatternEdge, numbers, texts, values);
-    put_row(b, Sort::Signer, numbers, texts, patterns)
+    let count = count_each(b);
+    let own = put_own(b, count.parents, numbers, room);
+    let names = put_counted(b, Sort::RuleName, count.names, numbers, texts, own);
+    let values = put_counted(b, Sort::ValueEdge, count.values, numbers, texts, names);
+    let patterns = put_counted(b, Sort::PatternEdge, count.patterns, numbers, texts, values);
+    put_counted(b, Sort::Signer, count.signers, numbers, texts, patterns)
 }
 
 fn put_pattern_edge(b: &[u8], numbers: &mut [u64], texts: &mut [u8], room: Room) -> Room
@@ -126,8 +152,9 @@ fn put_pattern_edge(b: &[u8], numbers: &mut [u64], texts: &mut [u8], room: Room)
         (state room (now (numbers .entry)) (now (texts .entry))) (state r (now (numbers .exit)) (now (texts .exit)))
         ⌝ }
 {
-    let destination = tlv::number_in(b, NODE_ID);
-    let rest = put_pair(destination, tlv::number_in(b, TAG), numbers, room);
+    let destination = number_put(b, NODE_ID, numbers, room);
+    let tag = number_put(b, TAG, numbers, room);
+    let rest = put_pair(destination, tag, numbers, room);
     put_row(b, Sort::Constraint, numbers, texts, rest)
 }
 
@@ -146,8 +173,50 @@ fn put_call(b: &[u8], numbers: &mut [u64], texts: &mut [u8], room: Room) -> Room
     put_row(b, Sort::Argument, numbers, texts, rest)
 }
 
+// How many elements of each sort a Node holds, in one go.
+fn count_each(node: &[u8]) -> Counts
+    ensures { λ r. ⌜ CountsOf (now (node .entry)) r ⌝ }
+{
+    let mut count = Counts {
+        parents: 0,
+        names: 0,
+        values: 0,
+        patterns: 0,
+        signers: 0,
+    };
+    let mut place = Place { at: 0 };
+    loop {
+        match place.element(node) {
+            Read::Found {
+                typ,
+                start: _,
+                end: _,
+                next,
+            } => {
+                place = next;
+                count = Counts {
+                    parents: count.parents + one_of(Sort::Parent, typ),
+                    names: count.names + one_of(Sort::RuleName, typ),
+                    values: count.values + one_of(Sort::ValueEdge, typ),
+                    patterns: count.patterns + one_of(Sort::PatternEdge, typ),
+                    signers: count.signers + one_of(Sort::Signer, typ),
+                };
+            }
+            Read::End => return count,
+            Read::Malformed => return count,
+        }
+    }
+}
+
+// 1 for a type of the sort, 0 for another.
+fn one_of(sort: Sort, typ: u32) -> usize
+    ensures { λ r. ⌜ r ≡ oneOf sort typ ⌝ }
+{
+    if is_of(sort, typ) { 1 } else { 0 }
+}
+
 // How many elements of one sort `s` holds. Only their headers are looked at.
-pub(crate) fn count_items(s: &[u8], sort: Sort) -> usize
+fn count_items(s: &[u8], sort: Sort) -> usize
     ensures { λ r. ⌜ r ≡ length (itemsOf sort (now (s .entry))) ⌝ }
 {
     let mut n = 0;

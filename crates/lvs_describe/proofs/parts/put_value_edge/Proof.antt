@@ -8,7 +8,7 @@ returns : tie.Need-returns
 returns c =
     let component = c .before .before .before .before in
     let inside = component .before .before .before .before in
-    value-edge-put _ (inside .before .number-in .ensures) (inside .inside-of .ensures) (component .put-component .ensures)
+    value-edge-put _ (inside .before .number-put .ensures) (inside .inside-of .ensures) (component .put-component .ensures)
 
 pub put-value-edge-spec : {M : Type 1} → statement M
 put-value-edge-spec =

@@ -1,5 +1,5 @@
--- `lvs_describe::rows::put_row`, `put_item` and the containers that hold rows meet their contracts. Each call from one to another is on the same bytes
--- or on a part of them that is shorter. Assumes nothing.
+-- `lvs_describe::rows::put_row`, `put_counted`, `put_item` and the containers that hold rows meet their contracts. Each call from one to another is on
+-- the same bytes or on a part of them that is shorter. Assumes nothing.
 use Prim.Native.Nat.{ℕ, _<_, _+_, _*_, _-_}
 use mathlib.Core.Path.{sym, _∙_}
 use native.Mathlib.Omega.{arith}
@@ -11,64 +11,78 @@ use Rattle.tlv.proofs.Cuts.{seen, SeenOf}
 use Rattle.tlv.proofs.Gathered.{stop-end, stop-malformed}
 use Rattle.lvs_describe.specs.Lent.{state}
 use Rattle.lvs_describe.proofs.Loops.{item-found, item-other, items-stop}
-use Rattle.lvs_describe.proofs.Walked.{Walked, walk-first, walk-past, walk-item, walk-end}
+use Rattle.lvs_describe.proofs.Walked.{Walked, walk-first, walk-past, walk-item, walk-end, walk-none}
 use Rattle.lvs_describe.proofs.Containers.{call-put, pattern-edge-put, node-put, node-item, symbol-item, parent-item, name-item, value-edge-item}
 use Rattle.lvs_describe.proofs.Containers.{pattern-edge-item, signer-item, constraint-item, option-item, value-item, tag-item, call-item, argument-item}
 use Rattle.lvs_describe.proofs.rows.put_call.Reads as put-call
 use Rattle.lvs_describe.proofs.rows.put_call.Kinds as put-call-kinds
-use Rattle.lvs_describe.proofs.rows.+put_call+put_item+put_node+put_pattern_edge+put_row.Lts-put_call as put-call-lts
+use Rattle.lvs_describe.proofs.rows.+put_call+put_counted+put_item+put_node+put_pattern_edge+put_row.Lts-put_call as put-call-lts
+use Rattle.lvs_describe.proofs.rows.put_counted.Reads as put-counted
+use Rattle.lvs_describe.proofs.rows.put_counted.Kinds as put-counted-kinds
+use Rattle.lvs_describe.proofs.rows.+put_call+put_counted+put_item+put_node+put_pattern_edge+put_row.Lts-put_counted as put-counted-lts
 use Rattle.lvs_describe.proofs.rows.put_item.Reads as put-item
 use Rattle.lvs_describe.proofs.rows.put_item.Kinds as put-item-kinds
-use Rattle.lvs_describe.proofs.rows.+put_call+put_item+put_node+put_pattern_edge+put_row.Lts-put_item as put-item-lts
+use Rattle.lvs_describe.proofs.rows.+put_call+put_counted+put_item+put_node+put_pattern_edge+put_row.Lts-put_item as put-item-lts
 use Rattle.lvs_describe.proofs.rows.put_node.Reads as put-node
 use Rattle.lvs_describe.proofs.rows.put_node.Kinds as put-node-kinds
-use Rattle.lvs_describe.proofs.rows.+put_call+put_item+put_node+put_pattern_edge+put_row.Lts-put_node as put-node-lts
+use Rattle.lvs_describe.proofs.rows.+put_call+put_counted+put_item+put_node+put_pattern_edge+put_row.Lts-put_node as put-node-lts
 use Rattle.lvs_describe.proofs.rows.put_pattern_edge.Reads as put-pattern-edge
 use Rattle.lvs_describe.proofs.rows.put_pattern_edge.Kinds as edge-kinds
-use Rattle.lvs_describe.proofs.rows.+put_call+put_item+put_node+put_pattern_edge+put_row.Lts-put_pattern_edge as edge-lts
+use Rattle.lvs_describe.proofs.rows.+put_call+put_counted+put_item+put_node+put_pattern_edge+put_row.Lts-put_pattern_edge as edge-lts
 use Rattle.lvs_describe.proofs.rows.put_row.Reads as put-row
 use Rattle.lvs_describe.proofs.rows.put_row.Kinds as put-row-kinds
-use Rattle.lvs_describe.proofs.rows.+put_call+put_item+put_node+put_pattern_edge+put_row.Lts-put_row as put-row-lts
+use Rattle.lvs_describe.proofs.rows.+put_call+put_counted+put_item+put_node+put_pattern_edge+put_row.Lts-put_row as put-row-lts
 use Rattle.lvs_describe.proofs.lists.put_number.Reads as put-number-reads
 use Rattle.lvs_describe.proofs.lists.put_numbered.Reads as put-numbered-reads
 use Rattle.lvs_describe.proofs.lists.put_pair.Reads as put-pair-reads
 use Rattle.lvs_describe.proofs.lists.put_text.Reads as put-text-reads
+use Rattle.lvs_describe.proofs.parts.number_put.Reads as number-put-reads
 use Rattle.lvs_describe.proofs.parts.put_argument.Reads as put-argument-reads
 use Rattle.lvs_describe.proofs.parts.put_component.Reads as put-component-reads
 use Rattle.lvs_describe.proofs.parts.put_own.Reads as put-own-reads
 use Rattle.lvs_describe.proofs.parts.put_symbol.Reads as put-symbol-reads
 use Rattle.lvs_describe.proofs.parts.put_value_edge.Reads as put-value-edge-reads
+use Rattle.lvs_describe.proofs.rows.count_each.Reads as count-each-reads
 use Rattle.lvs_describe.proofs.rows.count_items.Reads as count-items-reads
 use Rattle.lvs_describe.proofs.rows.is_of.Reads as is-of-reads
 use Rattle.tlv.proofs.Place.element.Reads as element-reads
 use Rattle.tlv.proofs.inside_of.Reads as inside-of-reads
-use Rattle.tlv.proofs.number_in.Reads as number-in-reads
 use Rattle.tlv.proofs.number_of.Reads as number-of-reads
-use Rattle.lvs_describe.proofs.rows.+put_call+put_item+put_node+put_pattern_edge+put_row.{statement}
-use Rattle.lvs_describe.proofs.rows.+put_call+put_item+put_node+put_pattern_edge+put_row.Tie.{close}
+use Rattle.lvs_describe.proofs.rows.+put_call+put_counted+put_item+put_node+put_pattern_edge+put_row.{statement}
+use Rattle.lvs_describe.proofs.rows.+put_call+put_counted+put_item+put_node+put_pattern_edge+put_row.Tie.{close}
 
--- ---- what each call asks, and that its measure falls: bytes left, and of calls on the same bytes an element's comes first, then a container's
+-- ---- what each call asks, and that its measure falls: bytes left, and of calls on the same bytes an element's comes first, then a container's, then a
+-- row's
 
 abbrev μ-put-call : Measures 3 put-call-kinds.ps ℕ
-μ-put-call κs a = 3 * length (a .0 .now) + 1
+μ-put-call κs a = 4 * length (a .0 .now) + 2
+
+abbrev μ-put-counted : Measures 3 put-counted-kinds.ps ℕ
+μ-put-counted κs a = 4 * length (a .0 .now)
 
 abbrev μ-put-item : Measures 3 put-item-kinds.ps ℕ
-μ-put-item κs a = 3 * length (a .0 .now) + 2
+μ-put-item κs a = 4 * length (a .0 .now) + 3
 
 abbrev μ-put-node : Measures 3 put-node-kinds.ps ℕ
-μ-put-node κs a = 3 * length (a .0 .now) + 1
+μ-put-node κs a = 4 * length (a .0 .now) + 2
 
 abbrev μ-put-pattern-edge : Measures 3 edge-kinds.ps ℕ
-μ-put-pattern-edge κs a = 3 * length (a .0 .now) + 1
+μ-put-pattern-edge κs a = 4 * length (a .0 .now) + 2
 
 abbrev μ-put-row : Measures 3 put-row-kinds.ps ℕ
-μ-put-row κs a = 3 * length (a .0 .now)
+μ-put-row κs a = 4 * length (a .0 .now) + 1
 
 abbrev put-call-at : ℕ → In 3 put-call-kinds.ps
 put-call-at t = and 3 put-call-kinds.ps (is 3 put-call-kinds.ps μ-put-call t) put-call.Pre
 
 abbrev put-call-below : ℕ → In 3 put-call-kinds.ps
 put-call-below t = and 3 put-call-kinds.ps (falls 3 put-call-kinds.ps _<_ μ-put-call t) put-call.Pre
+
+abbrev put-counted-at : ℕ → In 3 put-counted-kinds.ps
+put-counted-at t = and 3 put-counted-kinds.ps (is 3 put-counted-kinds.ps μ-put-counted t) put-counted.Pre
+
+abbrev put-counted-below : ℕ → In 3 put-counted-kinds.ps
+put-counted-below t = and 3 put-counted-kinds.ps (falls 3 put-counted-kinds.ps _<_ μ-put-counted t) put-counted.Pre
 
 abbrev put-item-at : ℕ → In 3 put-item-kinds.ps
 put-item-at t = and 3 put-item-kinds.ps (is 3 put-item-kinds.ps μ-put-item t) put-item.Pre
@@ -257,41 +271,50 @@ put-item-returns-13 t c =
 
 abbrev put-node-calls : ℕ → put-node-lts.Claims
 put-node-calls t = (
+  count-each-reads.Asked,
+  count-each-reads.Learnt,
   put-own-reads.Asked,
   put-own-reads.Learnt,
-  put-row-below t,
-  put-row.Post,
+  put-counted-below t,
+  put-counted.Post,
 )
 
 abbrev put-node-need : (put-node-lts.Claims → In 3 put-node-kinds.ps → Out 3 put-node-kinds.ps put-node-kinds.r → Type 0)
     → ℕ → Type 0
 put-node-need N t = N (put-node-calls t) (put-node-at t) put-node.Post
 
-put-node-put-row-requires : (t : ℕ) → put-node-need put-node-lts.Need-put-row-requires t
-put-node-put-row-requires t c κs =
-    let own = c .before .before .before .before in
-    (omega (arith, own .before .before .before .before .before .pre .0), tt)
+put-node-put-own-requires : (t : ℕ) → put-node-need put-node-lts.Need-put-own-requires t
+put-node-put-own-requires t c κs = c .before .count-each .ensures .parents-are
 
-put-node-put-row-requires-2 : (t : ℕ) → put-node-need put-node-lts.Need-put-row-requires-2 t
-put-node-put-row-requires-2 t c κs =
+put-node-put-counted-requires : (t : ℕ) → put-node-need put-node-lts.Need-put-counted-requires t
+put-node-put-counted-requires t c κs =
+    let own = c .before .before .before .before in
+    let count = own .before .before in
+    (omega (arith, count .before .before .before .before .pre .0), count .count-each .ensures .names-are)
+
+put-node-put-counted-requires-2 : (t : ℕ) → put-node-need put-node-lts.Need-put-counted-requires-2 t
+put-node-put-counted-requires-2 t c κs =
     let names = c .before .before .before .before .before .before in
     let own = names .before .before .before .before .before in
-    (omega (arith, own .before .before .before .before .before .pre .0), tt)
+    let count = own .before .before in
+    (omega (arith, count .before .before .before .before .pre .0), count .count-each .ensures .values-are)
 
-put-node-put-row-requires-3 : (t : ℕ) → put-node-need put-node-lts.Need-put-row-requires-3 t
-put-node-put-row-requires-3 t c κs =
+put-node-put-counted-requires-3 : (t : ℕ) → put-node-need put-node-lts.Need-put-counted-requires-3 t
+put-node-put-counted-requires-3 t c κs =
     let values = c .before .before .before .before .before .before in
     let names = values .before .before .before .before .before .before .before in
     let own = names .before .before .before .before .before in
-    (omega (arith, own .before .before .before .before .before .pre .0), tt)
+    let count = own .before .before in
+    (omega (arith, count .before .before .before .before .pre .0), count .count-each .ensures .patterns-are)
 
-put-node-put-row-requires-4 : (t : ℕ) → put-node-need put-node-lts.Need-put-row-requires-4 t
-put-node-put-row-requires-4 t c κs =
+put-node-put-counted-requires-4 : (t : ℕ) → put-node-need put-node-lts.Need-put-counted-requires-4 t
+put-node-put-counted-requires-4 t c κs =
     let patterns = c .before .before .before .before .before .before in
     let values = patterns .before .before .before .before .before .before .before in
     let names = values .before .before .before .before .before .before .before in
     let own = names .before .before .before .before .before in
-    (omega (arith, own .before .before .before .before .before .pre .0), tt)
+    let count = own .before .before in
+    (omega (arith, count .before .before .before .before .pre .0), count .count-each .ensures .signers-are)
 
 put-node-returns : (t : ℕ) → put-node-need put-node-lts.Need-returns t
 put-node-returns t c =
@@ -300,7 +323,8 @@ put-node-returns t c =
     let values = patterns .before .before .before .before .before .before .before in
     let names = values .before .before .before .before .before .before .before in
     let own = names .before .before .before .before .before in
-    node-put _ (own .put-own .ensures _) (names .put-row .ensures) (values .put-row2 .ensures) (patterns .put-row3 .ensures) (signers .put-row4 .ensures)
+    node-put _ (own .put-own .ensures _) (names .put-counted .ensures) (values .put-counted2 .ensures) (patterns .put-counted3 .ensures)
+    (signers .put-counted4 .ensures)
 
 put-node-same-length : (t : ℕ) → put-node-need put-node-lts.Need-same-length t
 put-node-same-length t c = put-node-returns t c .numbers-are .kept
@@ -312,8 +336,8 @@ put-node-same-length-2 t c = put-node-returns t c .texts-are .kept
 
 abbrev put-pattern-edge-calls : ℕ → edge-lts.Claims
 put-pattern-edge-calls t = (
-  number-in-reads.Asked,
-  number-in-reads.Learnt,
+  number-put-reads.Asked,
+  number-put-reads.Learnt,
   put-pair-reads.Asked,
   put-pair-reads.Learnt,
   put-row-below t,
@@ -327,22 +351,21 @@ put-pattern-edge-need N t = N (put-pattern-edge-calls t) (put-pattern-edge-at t)
 put-pattern-edge-put-row-requires : (t : ℕ) → put-pattern-edge-need edge-lts.Need-put-row-requires t
 put-pattern-edge-put-row-requires t c κs =
     let pair = c .before .before .before .before in
-    (omega (arith, pair .before .before .before .before .before .before .before .pre .0), tt)
+    let destination = pair .before .before .before .before in
+    (omega (arith, destination .before .before .before .before .before .pre .0), tt)
 
 put-pattern-edge-returns : (t : ℕ) → put-pattern-edge-need edge-lts.Need-returns t
 put-pattern-edge-returns t c =
     let constraints = c .before .before .before .before in
     let pair = constraints .before .before .before .before .before in
-    let destination = pair .before .before .before in
-    pattern-edge-put _ (destination .number-in .ensures) (pair .before .before .number-in2 .ensures) (pair .put-pair .ensures _)
+    let tag = pair .before .before in
+    pattern-edge-put _ (tag .before .before .number-put .ensures) (tag .number-put2 .ensures) (pair .put-pair .ensures _)
     (constraints .put-row .ensures)
 
--- ---- put_row
+-- ---- put_counted
 
-abbrev put-row-calls : ℕ → put-row-lts.Claims
-put-row-calls t = (
-  count-items-reads.Asked,
-  count-items-reads.Learnt,
+abbrev put-counted-calls : ℕ → put-counted-lts.Claims
+put-counted-calls t = (
   put-number-reads.Asked,
   put-number-reads.Learnt,
   element-reads.Asked,
@@ -353,79 +376,107 @@ put-row-calls t = (
   put-item.Post,
 )
 
-abbrev Inv : put-row-lts.InvT-loop
-Inv s sort numbers₀ texts₀ rest₀ place₀ numbers texts rest place =
+abbrev Inv : put-counted-lts.InvT-loop
+Inv s sort count numbers₀ texts₀ rest₀ place₀ numbers texts rest place =
     Walked sort s (place .at) (state rest₀ numbers₀ texts₀) (state rest numbers texts)
 
-abbrev μ : put-row-lts.MeasureT-loop
-μ s sort numbers₀ texts₀ rest₀ place₀ numbers texts rest place = length s - place .at
+abbrev μ : put-counted-lts.MeasureT-loop
+μ s sort count numbers₀ texts₀ rest₀ place₀ numbers texts rest place = length s - place .at
 
-abbrev put-row-need
-    : (put-row-lts.Claims → In 3 put-row-kinds.ps → Out 3 put-row-kinds.ps put-row-kinds.r → put-row-lts.InvT-loop → put-row-lts.MeasureT-loop → Type 0)
+abbrev put-counted-need
+    : (put-counted-lts.Claims → In 3 put-counted-kinds.ps → Out 3 put-counted-kinds.ps put-counted-kinds.r
+    → put-counted-lts.InvT-loop → put-counted-lts.MeasureT-loop → Type 0)
     → ℕ → Type 0
-put-row-need N t = N (put-row-calls t) (put-row-at t) put-row.Post Inv μ
+put-counted-need N t = N (put-counted-calls t) (put-counted-at t) put-counted.Post Inv μ
 
 -- at an element that was found
-module _ (t : ℕ) (c : put-row-need put-row-lts.After-typ t) where
+module _ (t : ℕ) (c : put-counted-need put-counted-lts.After-typ t) where
   step : SeenOf _ _ (c .before .before .element .ensures) (c .typ .given .1)
   step = seen _ _ (c .before .before .element .ensures) (c .typ .given .1)
 
-put-row-loop-holds : (t : ℕ) → put-row-need put-row-lts.Need-loop-holds t
-put-row-loop-holds t c = walk-first
+put-counted-loop-holds : (t : ℕ) → put-counted-need put-counted-lts.Need-loop-holds t
+put-counted-loop-holds t c = walk-first
 
-put-row-sub-put-item : (t : ℕ) → put-row-need put-row-lts.Need-sub-put-item t
-put-row-sub-put-item t c = omega (arith, step t (c .before .before .before))
+put-counted-sub-put-item : (t : ℕ) → put-counted-need put-counted-lts.Need-sub-put-item t
+put-counted-sub-put-item t c = omega (arith, step t (c .before .before .before))
 
-put-row-part-put-item-start : (t : ℕ) → put-row-need put-row-lts.Need-part-put-item-start t
-put-row-part-put-item-start t c = omega (arith, step t (c .before .before .before))
+put-counted-part-put-item-start : (t : ℕ) → put-counted-need put-counted-lts.Need-part-put-item-start t
+put-counted-part-put-item-start t c = omega (arith, step t (c .before .before .before))
 
-put-row-part-put-item-end : (t : ℕ) → put-row-need put-row-lts.Need-part-put-item-end t
-put-row-part-put-item-end t c = omega (arith, step t (c .before .before .before))
+put-counted-part-put-item-end : (t : ℕ) → put-counted-need put-counted-lts.Need-part-put-item-end t
+put-counted-part-put-item-end t c = omega (arith, step t (c .before .before .before))
 
-put-row-put-item-requires : (t : ℕ) → put-row-need put-row-lts.Need-put-item-requires t
-put-row-put-item-requires t c κs =
+put-counted-put-item-requires : (t : ℕ) → put-counted-need put-counted-lts.Need-put-item-requires t
+put-counted-put-item-requires t c κs =
     let turn = c .before .before .before .before .before .before in
     let loop = turn .before .before .before in
-    let count = loop .before .before .before .before .before in
-    (simp (length-take, length-drop) (omega (arith, count .before .before .before .before .pre .0, step t turn)), tt)
+    let number = loop .before .before .before .before in
+    (simp (length-take, length-drop) (omega (arith, number .before .before .before .before .before .pre .0, step t turn)), tt)
 
-put-row-loop-less : (t : ℕ) → put-row-need put-row-lts.Need-loop-less t
-put-row-loop-less t c =
+put-counted-loop-less : (t : ℕ) → put-counted-need put-counted-lts.Need-loop-less t
+put-counted-loop-less t c =
     let item = c .before .before .before .before in
     omega (arith, step t (item .before .before .before .before .before .before .before))
 
-put-row-loop-again : (t : ℕ) → put-row-need put-row-lts.Need-loop-again t
-put-row-loop-again t c =
+put-counted-loop-again : (t : ℕ) → put-counted-need put-counted-lts.Need-loop-again t
+put-counted-loop-again t c =
     let item = c .before .before .before .before in
     let test = item .before .before .before .before in
     let turn = test .before .before .before in
-    walk-item (turn .before .before .before .loop .inv) (item-found _ (step t turn) (sym (test .before .is-of .ensures) ∙ test .if1 .taken))
+    walk-item (turn .before .before .before .loop .inv) (item-found _ (step t turn) (sym (test .before .is-of .ensures) ∙ test .if2 .taken))
     (item .put-item .ensures)
 
-put-row-loop-less-2 : (t : ℕ) → put-row-need put-row-lts.Need-loop-less-2 t
-put-row-loop-less-2 t c = omega (arith, step t (c .before .before .before))
+put-counted-loop-less-2 : (t : ℕ) → put-counted-need put-counted-lts.Need-loop-less-2 t
+put-counted-loop-less-2 t c = omega (arith, step t (c .before .before .before))
 
-put-row-loop-again-2 : (t : ℕ) → put-row-need put-row-lts.Need-loop-again-2 t
-put-row-loop-again-2 t c =
+put-counted-loop-again-2 : (t : ℕ) → put-counted-need put-counted-lts.Need-loop-again-2 t
+put-counted-loop-again-2 t c =
     let turn = c .before .before .before in
-    walk-past (turn .before .before .before .loop .inv) (item-other _ (step t turn) (sym (c .before .is-of .ensures) ∙ c .if1 .left))
+    walk-past (turn .before .before .before .loop .inv) (item-other _ (step t turn) (sym (c .before .is-of .ensures) ∙ c .if2 .left))
 
-put-row-returns : (t : ℕ) → put-row-need put-row-lts.Need-returns t
-put-row-returns t c =
+put-counted-returns : (t : ℕ) → put-counted-need put-counted-lts.Need-returns t
+put-counted-returns t c =
+    let number = c .before .before .before in
+    walk-none _ _ (number .before .before .before .before .before .pre .1) (c .if1 .taken) (number .put-number .ensures _)
+
+put-counted-returns-2 : (t : ℕ) → put-counted-need put-counted-lts.Need-returns-2 t
+put-counted-returns-2 t c =
     let loop = c .before .before .before in
-    let number = loop .before .before .before in
-    walk-end (loop .loop .inv) (number .before .before .count-items .ensures) (number .put-number .ensures _)
+    let number = loop .before .before .before .before in
+    walk-end (loop .loop .inv) (number .before .before .before .before .before .pre .1) (number .put-number .ensures _)
     (items-stop _ (stop-end _ _ (c .before .before .element .ensures) (c .enum-told .given .1)))
 
-put-row-returns-2 : (t : ℕ) → put-row-need put-row-lts.Need-returns-2 t
-put-row-returns-2 t c =
+put-counted-returns-3 : (t : ℕ) → put-counted-need put-counted-lts.Need-returns-3 t
+put-counted-returns-3 t c =
     let loop = c .before .before .before in
-    let number = loop .before .before .before in
-    walk-end (loop .loop .inv) (number .before .before .count-items .ensures) (number .put-number .ensures _)
+    let number = loop .before .before .before .before in
+    walk-end (loop .loop .inv) (number .before .before .before .before .before .pre .1) (number .put-number .ensures _)
     (items-stop _ (stop-malformed _ _ (c .before .before .element .ensures) (c .enum-told2 .given .1)))
 
-pub +put-call+put-item+put-node+put-pattern-edge+put-row-spec : {M : Type 1} → statement M
-+put-call+put-item+put-node+put-pattern-edge+put-row-spec = close μ-put-call μ-put-item μ-put-node μ-put-pattern-edge μ-put-row
+-- ---- put_row
+
+abbrev put-row-calls : ℕ → put-row-lts.Claims
+put-row-calls t = (
+  count-items-reads.Asked,
+  count-items-reads.Learnt,
+  put-counted-below t,
+  put-counted.Post,
+)
+
+abbrev put-row-need : (put-row-lts.Claims → In 3 put-row-kinds.ps → Out 3 put-row-kinds.ps put-row-kinds.r → Type 0)
+    → ℕ → Type 0
+put-row-need N t = N (put-row-calls t) (put-row-at t) put-row.Post
+
+put-row-put-counted-requires : (t : ℕ) → put-row-need put-row-lts.Need-put-counted-requires t
+put-row-put-counted-requires t c κs =
+    let count = c .before .before in
+    (omega (arith, count .before .before .before .before .pre .0), count .count-items .ensures)
+
+put-row-returns : (t : ℕ) → put-row-need put-row-lts.Need-returns t
+put-row-returns t c = c .before .before .before .before .put-counted .ensures
+
+pub +put-call+put-counted+put-item+put-node+put-pattern-edge+put-row-spec : {M : Type 1} → statement M
++put-call+put-counted+put-item+put-node+put-pattern-edge+put-row-spec = close μ-put-call μ-put-counted μ-put-item μ-put-node μ-put-pattern-edge μ-put-row
     (λ t. put-call-lts.spec (put-call-calls t)
     (put-call-at t)
     put-call.Post
@@ -438,6 +489,34 @@ pub +put-call+put-item+put-node+put-pattern-edge+put-row-spec : {M : Type 1} →
     (λ c. search needs)
     (λ c. search needs)
     (put-call-returns t))
+    (λ t. put-counted-lts.spec (put-counted-calls t)
+    (put-counted-at t)
+    put-counted.Post
+    Inv
+    μ
+    (λ c κs. search needs)
+    (λ c. search needs)
+    (put-counted-returns t)
+    (put-counted-loop-holds t)
+    (λ c κs. search needs)
+    (λ c. search needs)
+    (λ c κs. search needs)
+    (put-counted-sub-put-item t)
+    (put-counted-part-put-item-start t)
+    (put-counted-part-put-item-end t)
+    (put-counted-put-item-requires t)
+    (put-counted-loop-less t)
+    (put-counted-loop-again t)
+    (put-counted-loop-less-2 t)
+    (put-counted-loop-again-2 t)
+    (λ c. search needs)
+    (λ c. search needs)
+    (λ c. search needs)
+    (put-counted-returns-2 t)
+    (λ c. search needs)
+    (λ c. search needs)
+    (λ c. search needs)
+    (put-counted-returns-3 t))
     (λ t. put-item-lts.spec (put-item-calls t)
     (put-item-at t)
     put-item.Post
@@ -508,10 +587,11 @@ pub +put-call+put-item+put-node+put-pattern-edge+put-row-spec : {M : Type 1} →
     (put-node-at t)
     put-node.Post
     (λ c κs. search needs)
-    (put-node-put-row-requires t)
-    (put-node-put-row-requires-2 t)
-    (put-node-put-row-requires-3 t)
-    (put-node-put-row-requires-4 t)
+    (put-node-put-own-requires t)
+    (put-node-put-counted-requires t)
+    (put-node-put-counted-requires-2 t)
+    (put-node-put-counted-requires-3 t)
+    (put-node-put-counted-requires-4 t)
     (put-node-same-length t)
     (put-node-same-length-2 t)
     (put-node-returns t))
@@ -528,27 +608,8 @@ pub +put-call+put-item+put-node+put-pattern-edge+put-row-spec : {M : Type 1} →
     λ t. put-row-lts.spec (put-row-calls t)
     (put-row-at t)
     put-row.Post
-    Inv
-    μ
     (λ c κs. search needs)
-    (λ c κs. search needs)
-    (put-row-loop-holds t)
-    (λ c κs. search needs)
-    (λ c. search needs)
-    (λ c κs. search needs)
-    (put-row-sub-put-item t)
-    (put-row-part-put-item-start t)
-    (put-row-part-put-item-end t)
-    (put-row-put-item-requires t)
-    (put-row-loop-less t)
-    (put-row-loop-again t)
-    (put-row-loop-less-2 t)
-    (put-row-loop-again-2 t)
-    (λ c. search needs)
+    (put-row-put-counted-requires t)
     (λ c. search needs)
     (λ c. search needs)
     (put-row-returns t)
-    (λ c. search needs)
-    (λ c. search needs)
-    (λ c. search needs)
-    (put-row-returns-2 t)
