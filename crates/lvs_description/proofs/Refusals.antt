@@ -2,13 +2,12 @@
 use Prim.Native.Nat.{ℕ}
 use mathlib.Core.Path.{_≡_, refl, sym, _∙_}
 use mathlib.Core.Bool.{Bool, true, false}
-use mathlib.Core.List.{List, [], _∷_, _++_, map, List·Memᴰ, List·Memᴰ·head, List·Memᴰ·tail}
-use mathlib.Core.Option.{Option, none, some}
+use mathlib.Core.List.{List, [], _∷_, _++_, List·Memᴰ, List·Memᴰ·head, List·Memᴰ·tail}
 use Rattle.lvs_spec.specs.WellFormed.{tooLong}
 use Rattle.lvs_spec.specs.Model.{Model}
-use Rattle.lvs_spec.specs.Verdict.{Verdict, Test, fault, rules, decide, judge, verdict}
+use Rattle.lvs_spec.specs.Verdict.{Verdict, rules, judge, verdict}
 use Rattle.lvs_spec.specs.Demands.{modelRefusals}
-use Rattle.lvs_spec.proofs.Lists.{clash}
+use Rattle.lvs_spec.proofs.Refusals.{decide-number}
 use Rattle.lvs_description.specs.Description.{modelBytes, formed}
 use Rattle.lvs_description.specs.Answers.{noDescription, shortOutput}
 use Rattle.lvs_description.proofs.Theorem.{readingOf, verdictOf, written-judged}
@@ -30,22 +29,6 @@ abbrev pub describeRefusals : List ℕ
 describeRefusals = modelRefusals ++ (noDescription ∷ [])
 
 -- ---- the bytes of a description
-
-abbrev numbers : List (ℕ × Test) → List ℕ
-numbers rs = map (λ (x : ℕ × Test). x .0) rs
-
--- a rule of the table has its number
-decide-number : (m : Model) (rs : List (ℕ × Test)) {r i : ℕ} → decide m rs ≡ Verdict.refused r i → List·Memᴰ r (numbers rs)
-unfolding decide
-decide-number m [] h = clash (cc)
-decide-number m (x ∷ rs) {r} {i} h = go (fault m (x .1)) refl (λ h. decide-number m rs {i = i} h)
-  where
-    go : (o : Option ℕ) → fault m (x .1) ≡ o → (decide m rs ≡ Verdict.refused r i → List·Memᴰ r (numbers rs)) → List·Memᴰ r (numbers (x ∷ rs))
-    go none q rec = List·Memᴰ·tail (rec (rw (q, decide) at h))
-    go (some j) q rec =
-        let h′ : Verdict.refused (x .0) j ≡ Verdict.refused r i = rw (q, decide) at h in
-        let e : r ≡ x .0 = cc in
-        List·Memᴰ·head e
 
 judge-number : (m : Model) {r i : ℕ} → judge m ≡ Verdict.refused r i → List·Memᴰ r ruleRefusals
 unfolding judge rules

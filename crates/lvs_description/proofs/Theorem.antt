@@ -13,6 +13,7 @@ use Rattle.lvs_spec.specs.WellFormed.{tooLong, otherVersion, wellFormed}
 use Rattle.lvs_spec.specs.Model.{Model, modelOf}
 use Rattle.lvs_spec.specs.Verdict.{Reading, unreadable, describes, reading, Verdict, accepted, refused, verdict, judge}
 use Rattle.lvs_spec.specs.Demands.{Alike}
+use Rattle.lvs_spec.proofs.Demand3.{alike}
 use Rattle.lvs_description.specs.Description.{modelBytes, descriptionOf, numbersOf, textsOf, formed}
 use Rattle.lvs_description.proofs.Rows.{Short}
 use Rattle.lvs_description.proofs.Lists as lists
@@ -92,7 +93,7 @@ written-judged m = rw (written-reading m, verdict, verdictOf)
 -- The calls go by the reading alone. Two byte strings with the same reading are alike: they have the same verdict, for all names and buffers
 -- the same match and the same words left, and for all names the same signing answer (`Alike`, lvs_spec/specs/Demands.antt).
 pub reading-alike : (a b : List ℕ) → reading a ≡ reading b → Alike a b
-reading-alike = written.alike
+reading-alike = alike
 
 module _ (b : List ℕ) (by : Bytes b) (m : Model) (p : reading b ≡ describes m) where
   -- A description that was read off bytes is written as bytes that have that description,

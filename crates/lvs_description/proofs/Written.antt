@@ -12,8 +12,6 @@ use Rattle.lvs_spec.specs.Limits.{maxModelBytes}
 use Rattle.lvs_spec.specs.WellFormed.{tooLong, otherVersion, wellFormed, firstKnown, isOtherVersion}
 use Rattle.lvs_spec.specs.Model.{Model, modelOf}
 use Rattle.lvs_spec.specs.Verdict.{unreadable, describes, reading, accepted, verdict}
-use Rattle.lvs_spec.specs.Answers.{usableModel, matchOutcome, signAnswer}
-use Rattle.lvs_spec.specs.Demands.{Alike}
 use Rattle.lvs_spec.proofs.Demand3.{passed, reads, good}
 use Rattle.lvs_spec.proofs.Lists.{clash}
 use Rattle.lvs_description.specs.Description.{modelBytes, formed}
@@ -98,10 +96,3 @@ module _ (b : List ℕ) (by : Bytes b) (m : Model) (p : reading b ≡ describes 
   again =
       let fits : tooLong (modelBytes m) ≡ false = le-ltb maxModelBytes (length (modelBytes m)) (omega (arith, no-longer, passed b m p .short)) in
       read-formed m fits (kept .0)
-
--- ---- any bytes
-
--- the calls go by the reading alone
-pub alike : (a b : List ℕ) → reading a ≡ reading b → Alike a b
-unfolding verdict usableModel matchOutcome signAnswer
-alike a b h = record { verdicts = rw (h, verdict); matched = λ name buffer. rw (h, usableModel); signed = λ packet key. rw (h, usableModel) }

@@ -17,10 +17,10 @@ use Rattle.lvs_spec.proofs.Lists.{clash}
 use Rattle.lvs_spec.proofs.Usable.{usable-verdict}
 
 -- a rule of the table has its number
-abbrev numbers : List (ℕ × Test) → List ℕ
+abbrev pub numbers : List (ℕ × Test) → List ℕ
 numbers rs = map (λ (x : ℕ × Test). x .0) rs
 
-decide-number : (m : Model) (rs : List (ℕ × Test)) {r i : ℕ} → decide m rs ≡ Verdict.refused r i → List·Memᴰ r (numbers rs)
+pub decide-number : (m : Model) (rs : List (ℕ × Test)) {r i : ℕ} → decide m rs ≡ Verdict.refused r i → List·Memᴰ r (numbers rs)
 unfolding decide
 decide-number m [] h = clash (cc)
 decide-number m (x ∷ rs) {r} {i} h = go (fault m (x .1)) refl (λ h. decide-number m rs {i = i} h)

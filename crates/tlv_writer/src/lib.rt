@@ -1,5 +1,7 @@
 // Numbers and bytes put into a lent buffer at a place: NDN's types and lengths in their shortest form, integers of a given width. What stands
 // before and behind stays.
+//
+// A layer below the public calls: `requires` asks that there is room for all of it, which the caller tests once for a whole element.
 ghost use mathlib.Core.Path.{_≡_};
 ghost use Prim.Native.Nat.{_+_, _≤_, _<_, _^_};
 ghost use lib.ListN.{length};
