@@ -17,7 +17,7 @@ use Rattle.lvs_write.specs.Spelled.{Bytes, spelled, textFrom, after, wra
 use Rattle.lvs_write.specs.declared.Cursor.{Cursor}
 use Rattle.lvs_write.specs.Steps.{versionFrom, Took, TookNumber, Writes, WritesNumbers}
 use Rattle.lvs_write.proofs.Moves.{stopped-wrote, nothing-wrote, wrote-as, chosen-wrote}
-use Rattle.lvs_write.proofs.Fronts.{Same, after-same, text-any, then-spelled, under-spelled, within-spelled, behind-spelled, many-of}
+use Rattle.lvs_write.proofs.Fronts.{Same, after-same, after-assoc, text-any, then-spelled, under-spelled, within-spelled, behind-spelled, many-of}
 
 infixr 40 _⨾_
 -- one and then another
@@ -50,9 +50,9 @@ pub term-part : Same (partFrom Part.Term) (spelled term)
 unfolding partFrom
 term-part l = refl
 
-pub value-edge-part : Same (partFrom (Part.Nested Container.ValueEdge)) (spelled (within type.ValueEdge valueEdge))
-unfolding partFrom nestedFrom insideFrom
-value-edge-part = within-spelled valueEdge type.ValueEdge
+pub value-edge-part : Same (partFrom Part.ValueEdge) (spelled (within type.ValueEdge valueEdge))
+unfolding partFrom
+value-edge-part l = refl
 
 pub pattern-edge-part : Same (partFrom (Part.Nested Container.PatternEdge)) (spelled (within type.PatternEdge patternEdge))
 unfolding partFrom nestedFrom insideFrom
@@ -81,7 +81,7 @@ symbol-part = within-spelled symbol type.TagSymbol
 -- ---- containers
 
 pub node-parts : Same
-    (spelled (integer type.NodeId) ⨾ spelled (maybe (integer type.Parent)) ⨾ all-of Part.RuleName ⨾ all-of (Part.Nested Container.ValueEdge) ⨾
+    (spelled (integer type.NodeId) ⨾ spelled (maybe (integer type.Parent)) ⨾ all-of Part.RuleName ⨾ all-of Part.ValueEdge ⨾
     all-of (Part.Nested Container.PatternEdge) ⨾ all-of Part.Signer)
     (spelled node)
 node-parts l =
@@ -97,13 +97,15 @@ symbol-parts l =
     both-parts (integer type.Tag) (text type.Identifier identifier) (as-it-is _) (text-any type.Identifier identifier) l ∙
     under-spelled _ (λ s. (s .tag, s .identifier)) _ (λ a. refl) l
 
-pub value-edge-parts : Same (spelled (integer type.NodeId) ⨾ spelled (component type.Value)) (spelled valueEdge)
-value-edge-parts l =
-    both-parts (integer type.NodeId) (component type.Value) (as-it-is _) (as-it-is _) l ∙
-    under-spelled _ (λ e. (e .destination, e .value)) _ (λ a. refl) l
+-- two integers in front are written together
+pair-first : (t u : ℕ) (g : Lists → Bytes) → Same (spelled (integer t then integer u) ⨾ g) (spelled (integer t) ⨾ spelled (integer u) ⨾ g)
+pair-first t u g l =
+    after-same (λ k. sym (then-spelled (integer t) (integer u) k)) (as-it-is g) l ∙
+    after-assoc (spelled (integer t) l) (spelled (integer u)) g
 
-pub pattern-edge-parts : Same (spelled (integer type.NodeId) ⨾ spelled (integer type.Tag) ⨾ all-of (Part.Nested Container.Constraint)) (spelled patternEdge)
+pub pattern-edge-parts : Same (spelled (integer type.NodeId then integer type.Tag) ⨾ all-of (Part.Nested Container.Constraint)) (spelled patternEdge)
 pattern-edge-parts l =
+    pair-first type.NodeId type.Tag _ l ∙
     both-parts (integer type.NodeId) _ (as-it-is _)
     (both-parts (integer type.Tag) (many (within type.Constraint constraint)) (as-it-is _) (many-of _ constraint-part)) l ∙
     under-spelled _ (λ e. (e .destination, (e .tag, e .constraints))) _ (λ a. refl) l
@@ -120,10 +122,11 @@ pub option-parts : Same (all-of Part.Term) (spelled option)
 option-parts = many-of _ term-part
 
 pub model-parts : Same
-    (versionFrom ⨾ spelled (integer type.NodeId) ⨾ spelled (integer type.NamedPatternCnt) ⨾ all-of (Part.Nested Container.Node) ⨾
+    (versionFrom ⨾ spelled (integer type.NodeId then integer type.NamedPatternCnt) ⨾ all-of (Part.Nested Container.Node) ⨾
     all-of (Part.Nested Container.Symbol))
     (spelled model)
 model-parts l =
+    after-same (as-it-is versionFrom) (pair-first type.NodeId type.NamedPatternCnt _) l ∙
     after-same (as-it-is versionFrom)
     (both-parts (integer type.NodeId) _ (as-it-is _)
     (both-parts (integer type.NamedPatternCnt) _ (as-it-is _)
@@ -287,10 +290,6 @@ pub symbol-inside : Same (spelled symbol) (insideFrom Container.Symbol)
 unfolding insideFrom
 symbol-inside l = refl
 
-pub value-edge-inside : Same (spelled valueEdge) (insideFrom Container.ValueEdge)
-unfolding insideFrom
-value-edge-inside l = refl
-
 pub pattern-edge-inside : Same (spelled patternEdge) (insideFrom Container.PatternEdge)
 unfolding insideFrom
 pattern-edge-inside l = refl
@@ -333,6 +332,10 @@ signer-written l = refl
 pub term-written : Same (spelled term) (partFrom Part.Term)
 unfolding partFrom
 term-written l = refl
+
+pub value-edge-written : Same (spelled (within type.ValueEdge valueEdge)) (partFrom Part.ValueEdge)
+unfolding partFrom
+value-edge-written l = refl
 
 pub nested-written : (c : Container) → Same (nestedFrom c) (partFrom (Part.Nested c))
 unfolding partFrom

@@ -1,7 +1,7 @@
 -- Formats and the bytes that they spell: a format made of others spells theirs one behind the other. Assumes nothing.
 use mathlib.Core.Path.{_≡_, refl, sym, ap, _∙_}
 use mathlib.Core.Bool.{Bool, true}
-use mathlib.Core.List.{List, [], append-assoc, append-nil}
+use mathlib.Core.List.{List, [], _++_, append-assoc, append-nil}
 use mathlib.Core.Option.{none, some}
 use Prim.Native.Nat.{ℕ, zero, suc}
 use Rattle.tlv.specs.Lists.{bind, each}
@@ -10,9 +10,11 @@ use Rattle.lvs_spec.specs.Types as type
 use Rattle.lvs_spec.specs.WellFormed.{thisVersion}
 use Rattle.lvs_description.specs.Format.{Lists, Taken, takeNumber, takeText, takeComponent, integerBytes, Format, holds, integer, text, component}
 use Rattle.lvs_description.specs.Format.{_then_, under, times, many, within, behind}
+use Rattle.lvs_spec.specs.Model.{ValueEdge}
+use Rattle.lvs_description.specs.Description.{valueEdge}
 use Rattle.lvs_write.specs.Spelled.{Bytes, spelled, textFrom, after, wrapped, run, counted}
-use Rattle.lvs_write.specs.Steps.{versionFrom}
-use Rattle.lvs_write.proofs.Sizes.{el, encode-one, encode-append}
+use Rattle.lvs_write.specs.Steps.{el, versionFrom}
+use Rattle.lvs_write.proofs.Sizes.{encode-one, encode-append}
 
 -- two ways to read the same
 abbrev pub Same : (Lists → Bytes) → (Lists → Bytes) → Type 0
@@ -67,6 +69,28 @@ pub component-spelled : (t : ℕ) (l : Lists)
     → spelled (component t) l ≡ bind (takeComponent l) (λ x. some (el t (el (x .0 .type) (x .0 .inside)), x .1))
 component-spelled t l =
     as-taken (component t) takeComponent (λ e. el t (el (e .type) (e .inside))) (λ k. refl) (λ e. encode-one t (el (e .type) (e .inside))) l
+
+-- two elements, one behind the other
+both-encoded : (t u : ℕ) (a b : List ℕ) → encode (holds t a ++ holds u b) ≡ el t a ++ el u b
+both-encoded t u a b = encode-append (holds t a) (holds u b) ∙ (λ i. encode-one t a i ++ encode-one u b i)
+
+pub pair-spelled : (t u : ℕ) (l : Lists)
+    → spelled (integer t then integer u) l
+    ≡ bind ((integer t then integer u) .from l) (λ x. some (el t (integerBytes (x .0 .0)) ++ el u (integerBytes (x .0 .1)), x .1))
+pair-spelled t u l =
+    as-taken (integer t then integer u) ((integer t then integer u) .from) (λ p. el t (integerBytes (p .0)) ++ el u (integerBytes (p .1)))
+    (λ k. refl) (λ p. both-encoded t u (integerBytes (p .0)) (integerBytes (p .1))) l
+
+abbrev pub valueEdgeBytes : ValueEdge → List ℕ
+valueEdgeBytes e =
+    el type.ValueEdge (el type.NodeId (integerBytes (e .destination)) ++ el type.Value (el (e .value .type) (e .value .inside)))
+
+pub value-edge-spelled : (l : Lists)
+    → spelled (within type.ValueEdge valueEdge) l ≡ bind (valueEdge .from l) (λ x. some (valueEdgeBytes (x .0), x .1))
+value-edge-spelled l =
+    as-taken (within type.ValueEdge valueEdge) (valueEdge .from) valueEdgeBytes (λ k. refl)
+    (λ e. encode-one type.ValueEdge _ ∙
+    ap (el type.ValueEdge) (both-encoded type.NodeId type.Value (integerBytes (e .destination)) (el (e .value .type) (e .value .inside)))) l
 
 -- whatever a text is asked to be, it is written alike
 pub text-any : (t : ℕ) (ok : List ℕ → Bool) → Same (textFrom t) (spelled (text t ok))

@@ -10,7 +10,6 @@ height Container.Constraint = 3
 height Container.ConstraintOption = 2
 height Container.Call = 1
 height Container.Symbol = 0
-height Container.ValueEdge = 0
 height Container.Argument = 0
 
 -- a term may be a call
@@ -18,4 +17,5 @@ abbrev pub weight : Part → ℕ
 weight Part.RuleName = 0
 weight Part.Signer = 0
 weight Part.Term = 13
+weight Part.ValueEdge = 0
 weight (Part.Nested c) = 8 * height c + 4

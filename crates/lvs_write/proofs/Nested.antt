@@ -15,8 +15,8 @@ use Rattle.tlv_writer.proofs.Stores.{stored-both, stored-length, stored-inside}
 use Rattle.lvs_description.specs.Format.{Lists}
 use Rattle.lvs_write.specs.declared.Cursor.{Cursor}
 use Rattle.lvs_write.specs.Spelled.{Bytes, wrapped}
-use Rattle.lvs_write.specs.Steps.{capped, elementSize, headerBytes, listsAt, stateOf, movedBy, Writes}
-use Rattle.lvs_write.proofs.Sizes.{el, capped-low, capped-is, capped-add, capped-capped, capped-element, header-then, element-length, element-room}
+use Rattle.lvs_write.specs.Steps.{el, capped, elementSize, headerBytes, listsAt, stateOf, movedBy, Writes}
+use Rattle.lvs_write.proofs.Sizes.{capped-low, capped-is, capped-add, capped-capped, capped-element, header-then, element-length, element-room}
 use Rattle.lvs_write.proofs.Moves.{apart, state-ok, state-not, moved-none, moved-some, stopped-wrote, one-wrote}
 
 -- the same place, where nothing has been written yet

@@ -8,7 +8,7 @@ use native.Mathlib.Numerals.{add-one}
 use native.Mathlib.Omega.{arith}
 use borrow.Author.Tests.{lt-ltb, le-ltb, le-leb, lt-leb, leb-true, leb-false, ltb-true}
 use lib.Dec.{leb, ltb, lit≤}
-use lib.ListN.{length, take, drop, getD, length-drop, drop-of-length-le}
+use lib.ListN.{length, take, drop, getD, length-append, length-drop, drop-of-length-le}
 use lib.Seq.{drop-cons, drop-drop}
 use Rattle.tlv.specs.Lists.{bind}
 use Rattle.tlv.specs.Bytes.{bigEndianBytes}
@@ -18,9 +18,11 @@ use Rattle.tlv_writer.proofs.Numbers.{number-most}
 use Rattle.tlv_writer.specs.Stored.{Stored, Digits}
 use Rattle.tlv_writer.proofs.Stores.{stored-both, stored-length}
 use Rattle.lvs_description.specs.Format.{Lists, Taken, bytesOf, takeText, takeComponent, integerWidth, integerBytes}
+use Rattle.lvs_description.specs.Description.{valueEdge}
+use Rattle.lvs_spec.specs.Types as type
 use Rattle.lvs_write.specs.declared.Cursor.{Cursor}
-use Rattle.lvs_write.specs.Steps.{capped, elementSize, headerBytes, stateOf, takenBy, Took, TookNumber, TookText, Puts}
-use Rattle.lvs_write.proofs.Sizes.{el, header-then, header-length, element-length, element-room}
+use Rattle.lvs_write.specs.Steps.{capped, el, elementSize, headerBytes, stateOf, takenBy, Took, TookNumber, TookText, Puts}
+use Rattle.lvs_write.proofs.Sizes.{header-then, header-length, element-length, element-room}
 use Rattle.lvs_write.proofs.Moves.{apart, state-ok, state-not, took-ok, took-none}
 
 -- ---- sizes
@@ -95,6 +97,25 @@ module _ (n : ℕ) where
   unfolding integerBytes
   integer-stored {w} {at} {b₀} {b₁} e P = subst (λ (k : ℕ). Stored b₀ b₁ at (bigEndianBytes k n)) e P
 
+-- an integer as an element
+pub integer-length : (t n : ℕ) {w size : ℕ} → w ≡ integerWidth n → size ≡ elementSize t w → (size ≡ length (el t (integerBytes n))) × (size ≤ 26)
+unfolding elementSize
+integer-length t n {w} {size} e size-is =
+    let long : size ≡ length (el t (integerBytes n)) = size-is ∙ ap (elementSize t) (integer-size n e) ∙ sym (element-length t (integerBytes n)) in
+    (long, omega (arith, size-is, number-most t, number-most w, width-most n e))
+
+-- ---- a place and what is put there
+
+pub has-all : (at size len : ℕ) {r : Bool} → r ≡ leb (at + size) len → r ≡ true → at + size ≤ len
+has-all at size len e f = leb-true _ _ (sym e ∙ f)
+
+-- there is no room
+pub put-none : (at : ℕ) (bs : List ℕ) {b : List ℕ} {size : ℕ} {r : Bool} → size ≡ length bs → r ≡ leb (at + size) (length b) → r ≡ false
+    → Puts b b at bs size
+put-none at bs {b} {size} long e f =
+    let far : length b < at + size = leb-false _ _ (sym e ∙ f) in
+    record { size-is = long; put = λ room. absurd (omega arith) }
+
 -- ---- an element in its place
 
 module _ (t at n : ℕ) {size : ℕ} (size-is : size ≡ elementSize t n) where
@@ -108,7 +129,7 @@ module _ (t at n : ℕ) {size : ℕ} (size-is : size ≡ elementSize t n) where
       omega (arith, element-room t n, H .0, stored-length (H .1))
 
   pub puts-all : {b b₁ b₂ i : List ℕ} {start : ℕ} → n ≡ length i → (start ≡ at + length (headerBytes t n)) × Stored b b₁ at (headerBytes t n)
-      → Stored b₁ b₂ start i → Puts b b₂ at t i size
+      → Stored b₁ b₂ start i → Puts b b₂ at (el t i) size
   puts-all {b} {b₁} {b₂} {i} n-is H P =
       let head : headerBytes t n ++ i ≡ el t i = ap (λ (j : ℕ). headerBytes t j ++ i) n-is ∙ header-then t i in
       record {
@@ -116,10 +137,8 @@ module _ (t at n : ℕ) {size : ℕ} (size-is : size ≡ elementSize t n) where
         put = λ room. subst (Stored b b₂ at) head (stored-both (H .1) P (sym (H .0)));
       }
 
-  pub puts-none : {b i : List ℕ} {r : Bool} → n ≡ length i → r ≡ leb (at + size) (length b) → r ≡ false → Puts b b at t i size
-  puts-none {b} n-is e f =
-      let far : length b < at + size = leb-false _ _ (sym e ∙ f) in
-      record { size-is = size-is ∙ ap (elementSize t) n-is ∙ sym (element-length t _); put = λ room. absurd (omega arith) }
+  pub puts-none : {b : List ℕ} (i : List ℕ) {r : Bool} → n ≡ length i → r ≡ leb (at + size) (length b) → r ≡ false → Puts b b at (el t i) size
+  puts-none i n-is e f = put-none at (el t i) (size-is ∙ ap (elementSize t) n-is ∙ sym (element-length t i)) e f
 
 pub header-both : (t n at : ℕ) {b₀ b₁ b₂ : List ℕ} {middle r : ℕ} → (middle ≡ at + length (numberBytes t)) × Stored b₀ b₁ at (numberBytes t)
     → (r ≡ middle + length (numberBytes n)) × Stored b₁ b₂ middle (numberBytes n) → (r ≡ at + length (headerBytes t n)) × Stored b₀ b₂ at (headerBytes t n)
@@ -135,13 +154,72 @@ pub component-small : (c : ℕ) (src : List ℕ) {n : ℕ} → n ≡ elementSize
 unfolding elementSize
 component-small c src e h = omega (arith, number-most c, number-most (length src))
 
-pub component-stored : (t c at n : ℕ) {size : ℕ} {src b₁ b₂ : List ℕ} {start k : ℕ} {r : Bool} → n ≡ elementSize c (length src) → size ≡ elementSize t n
-    → {b : List ℕ} → r ≡ leb (at + size) (length b) → r ≡ true → (start ≡ at + length (headerBytes t n)) × Stored b b₁ at (headerBytes t n)
-    → Puts b₁ b₂ start c src k → Puts b b₂ at t (el c src) size
-component-stored t c at n {size} {src} {b₁} {b₂} {start} n-is size-is e f H P =
+pub component-stored : (t c at n : ℕ) (src : List ℕ) {size : ℕ} {b₁ b₂ : List ℕ} {start k : ℕ} {r : Bool} → n ≡ elementSize c (length src)
+    → size ≡ elementSize t n → {b : List ℕ} → r ≡ leb (at + size) (length b) → r ≡ true
+    → (start ≡ at + length (headerBytes t n)) × Stored b b₁ at (headerBytes t n)
+    → Puts b₁ b₂ start (el c src) k → Puts b b₂ at (el t (el c src)) size
+component-stored t c at n src {size} {b₁} {b₂} {start} n-is size-is e f H P =
     let fits = inside-fits t at n size-is e f H in
     let long = component-size c src n-is in
     puts-all t at n size-is long H (P .put (omega (arith, P .size-is)))
+
+-- ---- one behind the other
+
+module _ (at : ℕ) (xs ys : List ℕ) {first second : ℕ} (first-is : first ≡ length xs) (second-is : second ≡ length ys) where
+  pub both-size : first + second ≡ length (xs ++ ys)
+  both-size = omega (arith, length-append xs ys)
+
+  pub both-stored : {b b₁ b₂ : List ℕ} {i j : ℕ} → at + (first + second) ≤ length b → Puts b b₁ at xs i → Puts b₁ b₂ (at + first) ys j
+      → Stored b b₂ at (xs ++ ys)
+  both-stored {b} {b₁} {b₂} room P Q =
+      let front = P .put (omega (arith, P .size-is)) in
+      stored-both front (Q .put (omega (arith, Q .size-is, stored-length front))) (ap (λ (k : ℕ). at + k) (sym first-is))
+
+-- two integers
+module _ (at a x b y : ℕ) {first second : ℕ} (first-is : first ≡ length (el a (integerBytes x))) (second-is : second ≡ length (el b (integerBytes y))) where
+  pub pair-put : {b₀ b₁ b₂ : List ℕ} {i j : ℕ} → Puts b₀ b₁ at (el a (integerBytes x)) i → Puts b₁ b₂ (at + first) (el b (integerBytes y)) j
+      → Puts b₀ b₂ at (el a (integerBytes x) ++ el b (integerBytes y)) (first + second)
+  pair-put P Q =
+      record {
+        size-is = both-size at (el a (integerBytes x)) (el b (integerBytes y)) first-is second-is;
+        put = λ room. both-stored at (el a (integerBytes x)) (el b (integerBytes y)) first-is second-is room P Q;
+      }
+
+  pub pair-none : {b₀ : List ℕ} {r : Bool} → r ≡ leb (at + (first + second)) (length b₀) → r ≡ false
+      → Puts b₀ b₀ at (el a (integerBytes x) ++ el b (integerBytes y)) (first + second)
+  pair-none = put-none at _ (both-size at (el a (integerBytes x)) (el b (integerBytes y)) first-is second-is)
+
+-- a ValueEdge's destination, and its component in a Value
+abbrev destination : ℕ → List ℕ
+destination to = el type.NodeId (integerBytes to)
+
+abbrev value : ℕ → List ℕ → List ℕ
+value c src = el type.Value (el c src)
+
+module _ (to c : ℕ) (src : List ℕ) {first m second : ℕ} (first-is : (first ≡ length (el type.NodeId (integerBytes to))) × (first ≤ 26))
+    (m-is : m ≡ elementSize c (length src)) (second-is : second ≡ elementSize type.Value m) where
+  value-size : second ≡ length (value c src)
+  value-size = second-is ∙ ap (elementSize type.Value) (component-size c src m-is) ∙ sym (element-length type.Value (el c src))
+
+  edge-size : first + second ≡ length (destination to ++ value c src)
+  edge-size = both-size 0 (destination to) (value c src) (first-is .0) value-size
+
+  pub edge-small : length src < 2 ^ 63 → first + second + 18 < 2 ^ 64
+  unfolding elementSize
+  edge-small h =
+      omega (arith, m-is, second-is, first-is .1, number-most c, number-most (length src), number-most type.Value, number-most m)
+
+  module _ (at : ℕ) {size : ℕ} (size-is : size ≡ elementSize type.ValueEdge (first + second)) where
+    pub edge-put : {b b₁ b₂ b₃ : List ℕ} {start i j : ℕ} {r : Bool} → r ≡ leb (at + size) (length b) → r ≡ true
+        → (start ≡ at + length (headerBytes type.ValueEdge (first + second))) × Stored b b₁ at (headerBytes type.ValueEdge (first + second))
+        → Puts b₁ b₂ start (destination to) i → Puts b₂ b₃ (start + first) (value c src) j
+        → Puts b b₃ at (el type.ValueEdge (destination to ++ value c src)) size
+    edge-put {start = start} e f H P Q =
+        puts-all type.ValueEdge at (first + second) size-is edge-size H
+        (both-stored start (destination to) (value c src) (first-is .0) value-size (inside-fits type.ValueEdge at (first + second) size-is e f H) P Q)
+
+    pub edge-none : {b : List ℕ} {r : Bool} → r ≡ leb (at + size) (length b) → r ≡ false → Puts b b at (el type.ValueEdge (destination to ++ value c src)) size
+    edge-none = puts-none type.ValueEdge at (first + second) size-is (destination to ++ value c src) edge-size
 
 -- ---- numbers and texts, taken
 
@@ -204,6 +282,11 @@ took-map {A} {B} {f} g {ns} {ts} {s} {r} {a} T = record { is = left (stateOf ns 
         go none p = rw p
         go (some y) p = rw p
 
+-- one and then another
+pub both-taken : {A B : Type 0} {f : Lists → Taken A} {g : Lists → Taken B} {ns ts : List ℕ} {s m r : Cursor} {a : A} {b : B} → Took f ns ts s a m
+    → Took g ns ts m b r → Took {A = A × B} (λ l. bind (f l) (λ x. bind (g (x .1)) (λ y. some ((x .0, y .0), y .1)))) ns ts s (a, b) r
+both-taken {A} {B} {f} {g} {ns} {ts} {s} {m} {r} {a} T U = took-chosen (λ k l. bind (g l) (λ y. some ((k, y .0), y .1))) T (took-map (λ y. (a, y)) U)
+
 -- ---- a text's bytes
 
 drop-least : (ts : List ℕ) (k : ℕ) {start : ℕ} → start ≡ min k (length ts) → drop k ts ≡ drop start ts
@@ -246,3 +329,8 @@ pub component-taken : (ns ts : List ℕ) {s m r : Cursor} {v start end : ℕ} �
     → Took takeComponent ns ts s (record { type = v; inside = take (end - start) (drop start ts) }) r
 component-taken ns ts {s} {m} {r} {v} T U = took-chosen (λ k l. bind (takeText l) (λ y. some (record { type = k; inside = y .0 }, y .1))) (T ts)
     (took-map (λ b. record { type = v; inside = b }) (U .taken))
+
+-- a ValueEdge's destination, and its component
+pub value-edge-taken : (ns ts : List ℕ) {s m k r : Cursor} {to v start end : ℕ} → TookNumber ns s to m → TookNumber ns m v k → TookText ns ts k start end r
+    → Took (valueEdge .from) ns ts s (record { destination = to; value = record { type = v; inside = take (end - start) (drop start ts) } }) r
+value-edge-taken ns ts T U X = took-map (λ p. record { destination = p .0; value = p .1 }) (both-taken (T ts) (component-taken ns ts U X))

@@ -10,7 +10,7 @@ use lib.ListN.{length, length-append}
 use Rattle.tlv.specs.Number.{numberBytes}
 use Rattle.tlv.specs.Element.{Element, elementBytes, encode}
 use Rattle.lvs_description.specs.Format.{holds}
-use Rattle.lvs_write.specs.Steps.{capped, elementSize, headerBytes}
+use Rattle.lvs_write.specs.Steps.{capped, el, elementSize, headerBytes}
 
 -- ---- the cap
 
@@ -55,9 +55,6 @@ capped-element k t a b e = go (ltb a 32769) refl
     go false p = both-large k t a b (ltb-false _ _ p) e
 
 -- ---- the bytes of an element
-
-abbrev pub el : ℕ → List ℕ → List ℕ
-el t i = elementBytes (record { type = t; inside = i })
 
 pub header-then : (t : ℕ) (i : List ℕ) → headerBytes t (length i) ++ i ≡ el t i
 unfolding headerBytes elementBytes

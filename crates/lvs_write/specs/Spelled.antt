@@ -6,7 +6,7 @@ use mathlib.Core.Option.{some}
 use Rattle.tlv.specs.Lists.{bind}
 use Rattle.tlv.specs.Element.{encode, elementBytes}
 use Rattle.lvs_spec.specs.Types as type
-use Rattle.lvs_description.specs.Format.{Lists, Taken, takeNumber, Format, integer, text}
+use Rattle.lvs_description.specs.Format.{Lists, Taken, takeNumber, Format, integer, text, within}
 use Rattle.lvs_description.specs.Description as description
 use Rattle.lvs_write.specs.declared.Container.{Container}
 use Rattle.lvs_write.specs.declared.Part.{Part}
@@ -45,7 +45,6 @@ counted f l = bind (takeNumber l) (λ r. run f (r .0) (r .1))
 abbrev pub typeOf : Container → ℕ
 typeOf Container.Node = type.Node
 typeOf Container.Symbol = type.TagSymbol
-typeOf Container.ValueEdge = type.ValueEdge
 typeOf Container.PatternEdge = type.PatternEdge
 typeOf Container.Constraint = type.Constraint
 typeOf Container.ConstraintOption = type.ConstraintOption
@@ -56,7 +55,6 @@ typeOf Container.Argument = type.UserFnArg
 unfoldable pub insideFrom : Container → Lists → Bytes
 insideFrom Container.Node = spelled description.node
 insideFrom Container.Symbol = spelled description.symbol
-insideFrom Container.ValueEdge = spelled description.valueEdge
 insideFrom Container.PatternEdge = spelled description.patternEdge
 insideFrom Container.Constraint = spelled description.constraint
 insideFrom Container.ConstraintOption = spelled description.option
@@ -70,4 +68,5 @@ unfoldable pub partFrom : Part → Lists → Bytes
 partFrom Part.RuleName = textFrom type.Identifier
 partFrom Part.Signer = spelled (integer type.SignConstraint)
 partFrom Part.Term = spelled description.term
+partFrom Part.ValueEdge = spelled (within type.ValueEdge description.valueEdge)
 partFrom (Part.Nested c) = nestedFrom c

@@ -70,10 +70,14 @@ WritesNumbers f ns before now s r = (ts : List ℕ) → Writes f ns ts before no
 unfoldable pub headerBytes : ℕ → ℕ → List ℕ
 headerBytes t n = numberBytes t ++ numberBytes n
 
--- an element was put at a place, if there is room for all of it; it has `size` bytes
-pub record Puts (before now : List ℕ) (at typ : ℕ) (inside : List ℕ) (size : ℕ) : Type 0 where
-  pub size-is : size ≡ length (elementBytes (record { type = typ; inside = inside }))
-  pub put : at + size ≤ length before → Stored before now at (elementBytes (record { type = typ; inside = inside }))
+-- an element of type t
+abbrev pub el : ℕ → List ℕ → List ℕ
+el t i = elementBytes (record { type = t; inside = i })
+
+-- bs was put at a place, if there is room for all of it; it has `size` bytes
+pub record Puts (before now : List ℕ) (at : ℕ) (bs : List ℕ) (size : ℕ) : Type 0 where
+  pub size-is : size ≡ length bs
+  pub put : at + size ≤ length before → Stored before now at bs
 
 -- ---- the whole
 

@@ -11,7 +11,7 @@ ghost use Rattle.lvs_write.specs.Spelled.{spelled};
 ghost use Rattle.lvs_write.specs.Steps.{first, sizeOf, Writes, WritesVersion, Written};
 use leaves::cap;
 use leaves::has_room;
-use leaves::write_integer;
+use leaves::write_pair;
 use lvs_spec::types::NAMED_PATTERN_CNT;
 use lvs_spec::types::NODE_ID;
 use parts::write_many;
@@ -25,11 +25,10 @@ struct Cursor {
     at: usize,
 }
 
-// What holds elements, inside a model.
+// What holds elements, inside a model, and is gone through to learn how many bytes they take.
 enum Container {
     Node,
     Symbol,
-    ValueEdge,
     PatternEdge,
     Constraint,
     ConstraintOption,
@@ -42,6 +41,7 @@ enum Part {
     RuleName,
     Signer,
     Term,
+    ValueEdge,
     Nested(Container),
 }
 
@@ -83,8 +83,7 @@ fn write_model(numbers: &[u64], texts: &[u8], out: &mut [u8]) -> Cursor
         ⌜ Writes (spelled model) (now (numbers .entry)) (now (texts .entry)) (now (out .entry)) (now (out .exit)) first r ⌝ }
 {
     let version = write_version(out);
-    let start = write_integer(NODE_ID, numbers, out, version);
-    let count = write_integer(NAMED_PATTERN_CNT, numbers, out, start);
+    let count = write_pair(NODE_ID, NAMED_PATTERN_CNT, numbers, out, version);
     let nodes = write_many(Part::Nested(Container::Node), numbers, texts, out, count);
     write_many(Part::Nested(Container::Symbol), numbers, texts, out, nodes)
 }

@@ -2,7 +2,7 @@
 ghost use mathlib.Core.Path.{_≡_};
 ghost use Rattle.lvs_spec.specs.Types as type;
 ghost use Rattle.lvs_description.specs.Format.{integer, maybe};
-ghost use Rattle.lvs_description.specs.Description.{node, symbol, valueEdge, patternEdge, call, term, argument};
+ghost use Rattle.lvs_description.specs.Description.{node, symbol, patternEdge, call, term, argument};
 ghost use Rattle.lvs_write.specs.Spelled.{spelled, counted, insideFrom, nestedFrom, partFrom, typeOf};
 ghost use Rattle.lvs_write.specs.Steps.{Writes, WritesNumbers};
 use crate::Container;
@@ -15,7 +15,9 @@ use crate::leaves::has_room;
 use crate::leaves::put_header;
 use crate::leaves::write_component;
 use crate::leaves::write_integer;
+use crate::leaves::write_pair;
 use crate::leaves::write_text;
+use crate::leaves::write_value_edge;
 use crate::lists::stopped;
 use crate::lists::take_number;
 use lvs_spec::types::CONSTRAINT;
@@ -31,7 +33,6 @@ use lvs_spec::types::TAG;
 use lvs_spec::types::TAG_SYMBOL;
 use lvs_spec::types::USER_FN_ARG;
 use lvs_spec::types::USER_FN_CALL;
-use lvs_spec::types::VALUE_EDGE;
 
 // How many there are, and each.
 pub(crate) fn write_many(
@@ -67,6 +68,7 @@ fn write_part(part: Part, numbers: &[u64], texts: &[u8], out: &mut [u8], s: Curs
         Part::RuleName => write_text(IDENTIFIER, numbers, texts, out, s),
         Part::Signer => write_integer(SIGN_CONSTRAINT, numbers, out, s),
         Part::Term => write_term(numbers, texts, out, s),
+        Part::ValueEdge => write_value_edge(numbers, texts, out, s),
         Part::Nested(container) => write_nested(container, numbers, texts, out, s),
     }
 }
@@ -118,7 +120,6 @@ fn type_of(container: Container) -> u32
     match container {
         Container::Node => NODE,
         Container::Symbol => TAG_SYMBOL,
-        Container::ValueEdge => VALUE_EDGE,
         Container::PatternEdge => PATTERN_EDGE,
         Container::Constraint => CONSTRAINT,
         Container::ConstraintOption => CONSTRAINT_OPTION,
@@ -140,7 +141,6 @@ fn write_inside(
     match container {
         Container::Node => write_node(numbers, texts, out, s),
         Container::Symbol => write_symbol(numbers, texts, out, s),
-        Container::ValueEdge => write_value_edge(numbers, texts, out, s),
         Container::PatternEdge => write_pattern_edge(numbers, texts, out, s),
         Container::Constraint => write_many(
             Part::Nested(Container::ConstraintOption),
@@ -161,13 +161,7 @@ fn write_node(numbers: &[u64], texts: &[u8], out: &mut [u8], s: Cursor) -> Curso
     let id = write_integer(NODE_ID, numbers, out, s);
     let parent = write_parent(numbers, out, id);
     let names = write_many(Part::RuleName, numbers, texts, out, parent);
-    let values = write_many(
-        Part::Nested(Container::ValueEdge),
-        numbers,
-        texts,
-        out,
-        names,
-    );
+    let values = write_many(Part::ValueEdge, numbers, texts, out, names);
     let patterns = write_many(
         Part::Nested(Container::PatternEdge),
         numbers,
@@ -192,18 +186,10 @@ fn write_parent(numbers: &[u64], out: &mut [u8], s: Cursor) -> Cursor
     }
 }
 
-fn write_value_edge(numbers: &[u64], texts: &[u8], out: &mut [u8], s: Cursor) -> Cursor
-    ensures { λ r. ⌜ Writes (spelled valueEdge) (now (numbers .entry)) (now (texts .entry)) (now (out .entry)) (now (out .exit)) s r ⌝ }
-{
-    let to = write_integer(NODE_ID, numbers, out, s);
-    write_component(numbers, texts, out, to)
-}
-
 fn write_pattern_edge(numbers: &[u64], texts: &[u8], out: &mut [u8], s: Cursor) -> Cursor
     ensures { λ r. ⌜ Writes (spelled patternEdge) (now (numbers .entry)) (now (texts .entry)) (now (out .entry)) (now (out .exit)) s r ⌝ }
 {
-    let to = write_integer(NODE_ID, numbers, out, s);
-    let tag = write_integer(TAG, numbers, out, to);
+    let tag = write_pair(NODE_ID, TAG, numbers, out, s);
     write_many(
         Part::Nested(Container::Constraint),
         numbers,

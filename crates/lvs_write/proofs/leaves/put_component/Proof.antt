@@ -22,7 +22,7 @@ returns c =
     let at-has-room = at-if1 .before in
     let at-element-size2 = at-has-room .before in
     let at-element-size = at-element-size2 .before in
-    component-stored _ _ _ _ (at-element-size .element-size .ensures)
+    component-stored _ _ _ _ _ (at-element-size .element-size .ensures)
     (at-element-size2 .element-size2 .ensures) (at-has-room .has-room .ensures)
     (at-if1 .if1 .taken) (at-put-header .put-header .ensures) (at-put-text .put-text .ensures)
 
@@ -31,7 +31,7 @@ returns-2 c =
     let at-has-room = c .before in
     let at-element-size2 = at-has-room .before in
     let at-element-size = at-element-size2 .before in
-    puts-none _ _ _ (at-element-size2 .element-size2 .ensures) (component-size _ _ (at-element-size .element-size .ensures))
+    puts-none _ _ _ (at-element-size2 .element-size2 .ensures) _ (component-size _ _ (at-element-size .element-size .ensures))
     (at-has-room .has-room .ensures) (c .if1 .left)
 
 pub put-component-spec : {M : Type 1} → statement M

@@ -41,7 +41,7 @@ returns-2 c =
     let at-has-room = c .before in
     let at-element-size = at-has-room .before in
     let at-integer-width = at-element-size .before in
-    puts-none _ _ _ (at-element-size .element-size .ensures) (integer-size _ (at-integer-width .integer-width .ensures))
+    puts-none _ _ _ (at-element-size .element-size .ensures) _ (integer-size _ (at-integer-width .integer-width .ensures))
     (at-has-room .has-room .ensures) (c .if1 .left)
 
 pub put-integer-spec : {M : Type 1} → statement M

@@ -29,7 +29,7 @@ returns c =
     puts-all _ _ _ (at-element-size .element-size .ensures) refl (at-put-header .put-header .ensures) (at-put-bytes .put-bytes .ensures)
 
 returns-2 : tie.Need-returns-2
-returns-2 c = puts-none _ _ _ (c .before .before .element-size .ensures) refl (c .before .has-room .ensures) (c .if1 .left)
+returns-2 c = puts-none _ _ _ (c .before .before .element-size .ensures) _ refl (c .before .has-room .ensures) (c .if1 .left)
 
 pub put-text-spec : {M : Type 1} → statement M
 put-text-spec =

@@ -2,7 +2,7 @@
 use borrow.Author.Needs.{needs}
 use borrow.Author.Tests.{not-true, not-false}
 use Rattle.lvs_write.proofs.Moves.{leaf-wrote, leaf-stopped}
-use Rattle.lvs_write.proofs.Sizes.{el}
+use Rattle.lvs_write.specs.Steps.{el}
 use Rattle.lvs_write.proofs.Fronts.{component-spelled}
 use Rattle.lvs_write.proofs.Places.{component-taken}
 use Rattle.lvs_spec.specs.Types as type

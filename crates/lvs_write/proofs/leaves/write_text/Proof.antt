@@ -2,7 +2,7 @@
 use borrow.Author.Needs.{needs}
 use borrow.Author.Tests.{not-true, not-false}
 use Rattle.lvs_write.proofs.Moves.{leaf-wrote, leaf-stopped}
-use Rattle.lvs_write.proofs.Sizes.{el}
+use Rattle.lvs_write.specs.Steps.{el}
 use Rattle.lvs_write.proofs.Fronts.{text-spelled}
 use Rattle.lvs_write.proofs.leaves.write_text.Statement.{statement}
 use Rattle.lvs_write.proofs.leaves.write_text.Tie as tie

@@ -38,14 +38,15 @@ use Rattle.lvs_write.proofs.leaves.has_room.Reads as has-room-reads
 use Rattle.lvs_write.proofs.leaves.put_header.Reads as put-header-reads
 use Rattle.lvs_write.proofs.leaves.write_component.Reads as write-component-reads
 use Rattle.lvs_write.proofs.leaves.write_integer.Reads as write-integer-reads
+use Rattle.lvs_write.proofs.leaves.write_pair.Reads as write-pair-reads
 use Rattle.lvs_write.proofs.leaves.write_text.Reads as write-text-reads
+use Rattle.lvs_write.proofs.leaves.write_value_edge.Reads as write-value-edge-reads
 use Rattle.lvs_write.proofs.lists.stopped.Reads as stopped-reads
 use Rattle.lvs_write.proofs.lists.take_number.Reads as take-number-reads
 use Rattle.lvs_write.proofs.parts.type_of.Reads as type-of-reads
 use Rattle.lvs_write.proofs.parts.write_argument.Reads as write-argument-reads
 use Rattle.lvs_write.proofs.parts.write_parent.Reads as write-parent-reads
 use Rattle.lvs_write.proofs.parts.write_symbol.Reads as write-symbol-reads
-use Rattle.lvs_write.proofs.parts.write_value_edge.Reads as write-value-edge-reads
 use Rattle.lvs_write.proofs.parts.+write_call+write_inside+write_many+write_nested+write_node+write_part+write_pattern_edge+write_term as cycle
 use Rattle.lvs_write.proofs.parts.+write_call+write_inside+write_many+write_nested+write_node+write_part+write_pattern_edge+write_term.{
   statement,
@@ -179,8 +180,6 @@ write-inside-calls t = (
   write-node.Post,
   write-symbol-reads.Asked,
   write-symbol-reads.Learnt,
-  write-value-edge-reads.Asked,
-  write-value-edge-reads.Learnt,
   write-pattern-edge-below t,
   write-pattern-edge.Post,
   write-many-below t,
@@ -235,14 +234,16 @@ write-part-calls t = (
   write-integer-reads.Learnt,
   write-term-below t,
   write-term.Post,
+  write-value-edge-reads.Asked,
+  write-value-edge-reads.Learnt,
   write-nested-below t,
   write-nested.Post,
 )
 
 abbrev write-pattern-edge-calls : ℕ → cycle.Lts-write_pattern_edge.Claims
 write-pattern-edge-calls t = (
-  write-integer-reads.Asked,
-  write-integer-reads.Learnt,
+  write-pair-reads.Asked,
+  write-pair-reads.Learnt,
   write-many-below t,
   write-many.Post,
 )
@@ -282,30 +283,30 @@ write-inside-write-node-requires t c κs =
 write-inside-write-pattern-edge-requires : (t : ℕ)
     → cycle.Lts-write_inside.Need-write-pattern-edge-requires (write-inside-calls t) (write-inside-at t) write-inside.Post
 write-inside-write-pattern-edge-requires t c κs =
-    let at-enum-told4 = c .before in
-    let at-pre = at-enum-told4 .before .before .before .before .before in
-    (omega (arith, at-pre .pre .0, ap height (at-enum-told4 .enum-told4 .given .1)), tt)
+    let at-enum-told3 = c .before in
+    let at-pre = at-enum-told3 .before .before .before .before .before in
+    (omega (arith, at-pre .pre .0, ap height (at-enum-told3 .enum-told3 .given .1)), tt)
 
 write-inside-write-many-requires : (t : ℕ)
     → cycle.Lts-write_inside.Need-write-many-requires (write-inside-calls t) (write-inside-at t) write-inside.Post
 write-inside-write-many-requires t c κs =
-    let at-enum-told5 = c .before in
-    let at-pre = at-enum-told5 .before .before .before .before .before in
-    (omega (arith, at-pre .pre .0, ap height (at-enum-told5 .enum-told5 .given .1)), tt)
+    let at-enum-told4 = c .before in
+    let at-pre = at-enum-told4 .before .before .before .before .before in
+    (omega (arith, at-pre .pre .0, ap height (at-enum-told4 .enum-told4 .given .1)), tt)
 
 write-inside-write-many-requires-2 : (t : ℕ)
     → cycle.Lts-write_inside.Need-write-many-requires-2 (write-inside-calls t) (write-inside-at t) write-inside.Post
 write-inside-write-many-requires-2 t c κs =
-    let at-enum-told6 = c .before in
-    let at-pre = at-enum-told6 .before .before .before .before .before in
-    (omega (arith, at-pre .pre .0, ap height (at-enum-told6 .enum-told6 .given .1)), tt)
+    let at-enum-told5 = c .before in
+    let at-pre = at-enum-told5 .before .before .before .before .before in
+    (omega (arith, at-pre .pre .0, ap height (at-enum-told5 .enum-told5 .given .1)), tt)
 
 write-inside-write-call-requires : (t : ℕ)
     → cycle.Lts-write_inside.Need-write-call-requires (write-inside-calls t) (write-inside-at t) write-inside.Post
 write-inside-write-call-requires t c κs =
-    let at-enum-told7 = c .before in
-    let at-pre = at-enum-told7 .before .before .before .before .before in
-    (omega (arith, at-pre .pre .0, ap height (at-enum-told7 .enum-told7 .given .1)), tt)
+    let at-enum-told6 = c .before in
+    let at-pre = at-enum-told6 .before .before .before .before .before in
+    (omega (arith, at-pre .pre .0, ap height (at-enum-told6 .enum-told6 .given .1)), tt)
 
 write-inside-returns : (t : ℕ) → cycle.Lts-write_inside.Need-returns (write-inside-calls t) (write-inside-at t) write-inside.Post
 write-inside-returns t c =
@@ -321,39 +322,33 @@ write-inside-returns-2 t c =
 
 write-inside-returns-3 : (t : ℕ) → cycle.Lts-write_inside.Need-returns-3 (write-inside-calls t) (write-inside-at t) write-inside.Post
 write-inside-returns-3 t c =
-    let at-write-value-edge = c .before .before in
-    let at-enum-told3 = at-write-value-edge .before .before in
-    parts.by-container (at-enum-told3 .enum-told3 .given .1) parts.value-edge-inside (at-write-value-edge .write-value-edge .ensures)
+    let at-write-pattern-edge = c .before .before in
+    let at-enum-told3 = at-write-pattern-edge .before .before in
+    parts.by-container (at-enum-told3 .enum-told3 .given .1) parts.pattern-edge-inside (at-write-pattern-edge .write-pattern-edge .ensures)
 
 write-inside-returns-4 : (t : ℕ) → cycle.Lts-write_inside.Need-returns-4 (write-inside-calls t) (write-inside-at t) write-inside.Post
 write-inside-returns-4 t c =
-    let at-write-pattern-edge = c .before .before in
-    let at-enum-told4 = at-write-pattern-edge .before .before in
-    parts.by-container (at-enum-told4 .enum-told4 .given .1) parts.pattern-edge-inside (at-write-pattern-edge .write-pattern-edge .ensures)
+    let at-write-many = c .before .before in
+    let at-enum-told4 = at-write-many .before .before in
+    parts.by-container (at-enum-told4 .enum-told4 .given .1) parts.constraint-inside (at-write-many .write-many .ensures)
 
 write-inside-returns-5 : (t : ℕ) → cycle.Lts-write_inside.Need-returns-5 (write-inside-calls t) (write-inside-at t) write-inside.Post
 write-inside-returns-5 t c =
-    let at-write-many = c .before .before in
-    let at-enum-told5 = at-write-many .before .before in
-    parts.by-container (at-enum-told5 .enum-told5 .given .1) parts.constraint-inside (at-write-many .write-many .ensures)
+    let at-write-many2 = c .before .before in
+    let at-enum-told5 = at-write-many2 .before .before in
+    parts.by-container (at-enum-told5 .enum-told5 .given .1) parts.option-inside (at-write-many2 .write-many2 .ensures)
 
 write-inside-returns-6 : (t : ℕ) → cycle.Lts-write_inside.Need-returns-6 (write-inside-calls t) (write-inside-at t) write-inside.Post
 write-inside-returns-6 t c =
-    let at-write-many2 = c .before .before in
-    let at-enum-told6 = at-write-many2 .before .before in
-    parts.by-container (at-enum-told6 .enum-told6 .given .1) parts.option-inside (at-write-many2 .write-many2 .ensures)
+    let at-write-call = c .before .before in
+    let at-enum-told6 = at-write-call .before .before in
+    parts.by-container (at-enum-told6 .enum-told6 .given .1) parts.call-inside (at-write-call .write-call .ensures)
 
 write-inside-returns-7 : (t : ℕ) → cycle.Lts-write_inside.Need-returns-7 (write-inside-calls t) (write-inside-at t) write-inside.Post
 write-inside-returns-7 t c =
-    let at-write-call = c .before .before in
-    let at-enum-told7 = at-write-call .before .before in
-    parts.by-container (at-enum-told7 .enum-told7 .given .1) parts.call-inside (at-write-call .write-call .ensures)
-
-write-inside-returns-8 : (t : ℕ) → cycle.Lts-write_inside.Need-returns-8 (write-inside-calls t) (write-inside-at t) write-inside.Post
-write-inside-returns-8 t c =
     let at-write-argument = c .before .before in
-    let at-enum-told8 = at-write-argument .before .before in
-    parts.by-container (at-enum-told8 .enum-told8 .given .1) parts.argument-inside (at-write-argument .write-argument .ensures)
+    let at-enum-told7 = at-write-argument .before .before in
+    parts.by-container (at-enum-told7 .enum-told7 .given .1) parts.argument-inside (at-write-argument .write-argument .ensures)
 
 write-many-loop-holds : (t : ℕ)
     → cycle.Lts-write_many.Need-loop-holds (write-many-calls t) (write-many-at t) write-many.Post write-many-Inv-loop write-many-μ-loop
@@ -466,6 +461,12 @@ write-part-returns-3 t c =
 
 write-part-returns-4 : (t : ℕ) → cycle.Lts-write_part.Need-returns-4 (write-part-calls t) (write-part-at t) write-part.Post
 write-part-returns-4 t c =
+    let at-write-value-edge = c .before .before in
+    let at-enum-told4 = at-write-value-edge .before .before in
+    parts.by-part (at-enum-told4 .enum-told4 .given .1) parts.value-edge-written (at-write-value-edge .write-value-edge .ensures)
+
+write-part-returns-5 : (t : ℕ) → cycle.Lts-write_part.Need-returns-5 (write-part-calls t) (write-part-at t) write-part.Post
+write-part-returns-5 t c =
     let at-write-nested = c .before .before in
     let at-part = at-write-nested .before .before .before in
     parts.by-part (at-part .part .given .1) (parts.nested-written _) (at-write-nested .write-nested .ensures)
@@ -473,20 +474,15 @@ write-part-returns-4 t c =
 write-pattern-edge-write-many-requires : (t : ℕ)
     → cycle.Lts-write_pattern_edge.Need-write-many-requires (write-pattern-edge-calls t) (write-pattern-edge-at t) write-pattern-edge.Post
 write-pattern-edge-write-many-requires t c κs =
-    let at-pre = c .before .before .before .before .before .before .before .before .before .before .before .before in
+    let at-pre = c .before .before .before .before .before .before .before .before in
     (omega (arith, at-pre .pre .0), tt)
 
 write-pattern-edge-returns : (t : ℕ)
     → cycle.Lts-write_pattern_edge.Need-returns (write-pattern-edge-calls t) (write-pattern-edge-at t) write-pattern-edge.Post
 write-pattern-edge-returns t c =
     let at-write-many = c .before .before in
-    let at-write-integer2 = at-write-many .before .before .before .before in
-    let at-write-integer = at-write-integer2 .before .before .before .before in
-    wrote-as parts.pattern-edge-parts
-    (then-wrote (at-write-integer .write-integer .ensures _) (then-wrote
-    (at-write-integer2 .write-integer2 .ensures _) (at-write-many .write-many .ensures)
-    (search needs))
-    (search needs))
+    let at-write-pair = at-write-many .before .before .before .before in
+    wrote-as parts.pattern-edge-parts (then-wrote (at-write-pair .write-pair .ensures _) (at-write-many .write-many .ensures) (search needs))
 
 write-term-write-nested-requires : (t : ℕ) → cycle.Lts-write_term.Need-write-nested-requires (write-term-calls t) (write-term-at t) write-term.Post
 write-term-write-nested-requires t c κs =
@@ -663,8 +659,6 @@ pub +write-call+write-inside+write-many+write-nested+write-node+write-part+write
     (λ c. search needs)
     (λ c κs. search needs)
     (λ c. search needs)
-    (λ c κs. search needs)
-    (λ c. search needs)
     (write-inside-write-pattern-edge-requires t)
     (λ c. search needs)
     (write-inside-write-many-requires t)
@@ -687,9 +681,7 @@ pub +write-call+write-inside+write-many+write-nested+write-node+write-part+write
     (λ c. search needs)
     (write-inside-returns-6 t)
     (λ c. search needs)
-    (write-inside-returns-7 t)
-    (λ c. search needs)
-    (write-inside-returns-8 t))
+    (write-inside-returns-7 t))
     (λ t. cycle.Lts-write_many.spec (write-many-calls t) (write-many-at t)
     write-many.Post
     write-many-Inv-loop
@@ -746,6 +738,8 @@ pub +write-call+write-inside+write-many+write-nested+write-node+write-part+write
     (λ c. search needs)
     (write-part-write-term-requires t)
     (λ c. search needs)
+    (λ c κs. search needs)
+    (λ c. search needs)
     (write-part-write-nested-requires t)
     (λ c. search needs)
     (write-part-returns t)
@@ -754,10 +748,11 @@ pub +write-call+write-inside+write-many+write-nested+write-node+write-part+write
     (λ c. search needs)
     (write-part-returns-3 t)
     (λ c. search needs)
-    (write-part-returns-4 t))
+    (write-part-returns-4 t)
+    (λ c. search needs)
+    (write-part-returns-5 t))
     (λ t. cycle.Lts-write_pattern_edge.spec (write-pattern-edge-calls t) (write-pattern-edge-at t)
     write-pattern-edge.Post
-    (λ c κs. search needs)
     (λ c κs. search needs)
     (write-pattern-edge-write-many-requires t)
     (λ c. search needs)
