@@ -1,28 +1,29 @@
 -- The writing call's outcome, from what its callees answered and wrote. Assumes nothing.
 use Prim.Native.Nat.{ℕ, _+_, _≤_, _<_}
+use native.Mathlib.Nat.{zero-add}
 use native.Mathlib.Omega.{arith}
 use mathlib.Core.Path.{_≡_, refl, sym, ap, _∙_}
-use mathlib.Core.List.{List, [], _++_, append-nil}
+use mathlib.Core.List.{List, _++_, append-nil}
 use mathlib.Core.Option.{Option, none, some}
 use borrow.Author.Tests.{lt-ltb}
-use lib.ListN.{length, take, drop, length-append, drop-of-length-le}
-use lib.Seq.{sets-eq, take-at, length-take-le}
+use lib.ListN.{length, take, drop, take-append-drop, drop-of-length-le}
+use lib.Seq.{sets-eq, length-take-le}
 use Rattle.tlv_writer.specs.Stored.{Stored}
 use Rattle.lvs_spec.specs.Limits.{maxModelBytes}
 use Rattle.lvs_spec.specs.WellFormed.{tooLong}
 use Rattle.lvs_spec.specs.Model.{Model}
-use Rattle.lvs_spec.specs.Verdict.{accepted, refused, reading, verdict}
+use Rattle.lvs_spec.specs.Verdict.{Verdict as Judged, accepted, refused, reading, verdict}
 use Rattle.lvs_spec.specs.Answers.{plain}
 use Rattle.lvs_spec.proofs.Lists.{clash}
 use Rattle.lvs.specs.Answers.{verdictOf}
 use Rattle.lvs.specs.declared.Verdict.{Verdict}
 use Rattle.lvs.specs.declared.Verdict.the-variants as verdicts
 use Rattle.lvs_description.specs.Description.{modelBytes, descriptionOf}
-use Rattle.lvs_description.specs.Answers.{writeRefused, written, writeOutcome, noDescription, shortOutput}
+use Rattle.lvs_description.specs.Answers.{WriteOutcome, writeRefused, written, writeOutcome, noDescription, shortOutput}
 use Rattle.lvs_description.proofs.Calls.{no-description, refused-bytes, short-output, on-output, writing-is}
 use Rattle.lvs_write.specs.Steps.{capped, sizeOf, Written}
 use Rattle.lvs_write.specs.declared.Size.{Size}
-use Rattle.lvs_codec.specs.Answers.{Sized, Judges}
+use Rattle.lvs_codec.specs.Answers.{Sized}
 
 -- ---- the size
 
@@ -64,58 +65,73 @@ module _ {ns ts : List ℕ} {n : ℕ} (M : Measured ns ts n) where
   unfolding capped
   sized h = record { model = M .model; is = M .is; size-is = omega (arith, M .size-is); small = h }
 
--- ---- the bytes, written over all of a part
+-- and a part of that length has just room for it
+pub sized-front : {ns ts : List ℕ} {n : ℕ} → Sized ns ts n → (l : List ℕ) → n ≤ length l → Sized ns ts (length (take n l))
+sized-front S l h = rw (length-take-le _ l h) S
 
-filled : {part y bs : List ℕ} → Stored part y 0 bs → length part ≡ length bs → y ≡ bs
-filled {part} {y} {bs} P e =
-    let all : drop (0 + length bs) part ≡ [] = drop-of-length-le part {i = 0 + length bs} (omega arith) in
-    P .is ∙ sets-eq bs part 0 (omega arith) ∙ (λ i. (take-at [] part 0 refl i ++ bs) ++ all i) ∙ append-nil bs
+-- ---- bytes over all of a place
 
-module _ {ns ts : List ℕ} {n : ℕ} (S : Sized ns ts n) where
-  module _ {part y : List ℕ} (W : Written ns ts part y) (long : length part ≡ n) where
-    bytes-are : y ≡ modelBytes (S .model)
-    bytes-are =
-        filled (W .put (S .model) (S .is) (omega (arith, S .size-is, S .small)) (omega (arith, S .size-is))) (long ∙ S .size-is)
+covered : (bs place : List ℕ) → length bs ≡ length place → bs ++ drop (length bs) place ≡ bs
+covered bs place e = ap (λ (rest : List ℕ). bs ++ rest) (drop-of-length-le place {i = length bs} (omega arith)) ∙ append-nil bs
 
-    y-long : length y ≡ n
-    y-long = ap length bytes-are ∙ sym (S .size-is)
+filled : {place y bs : List ℕ} → Stored place y 0 bs → length bs ≡ length place → y ≡ bs
+filled {place} {y} {bs} P e = P .is ∙ sets-eq bs place 0 (omega arith) ∙ rw (zero-add (length bs)) (covered bs place e)
 
-    -- the part is back in front of the rest,
-    pub front-fits : (rest : List ℕ) → n ≤ length (y ++ rest)
-    front-fits rest = simp length-append (omega (arith, y-long))
+-- the description's, where there is just room for them
+module _ {ns ts place y : List ℕ} (S : Sized ns ts (length place)) (W : Written ns ts place y) where
+  bytes-are : y ≡ modelBytes (S .model)
+  bytes-are = filled (W .put (S .model) (S .is) (omega (arith, S .size-is, S .small)) (omega (arith, S .size-is))) (sym (S .size-is))
 
-    pub front-length : (rest : List ℕ) → n ≡ length (take n (y ++ rest))
-    front-length rest = sym (length-take-le n (y ++ rest) (front-fits rest))
+  -- the verdict on them
+  module _ {v : Verdict} (e : verdictOf v ≡ verdict y) where
+    judged : {w : Verdict} → v ≡ w → verdict (modelBytes (S .model)) ≡ verdictOf w
+    judged f = ap verdict (sym bytes-are) ∙ sym e ∙ ap verdictOf f
 
-    -- and is judged
-    pub judged : (rest : List ℕ) (v : Verdict) → verdictOf v ≡ verdict (take n (y ++ rest)) → Judges ns ts (verdictOf v)
-    judged rest v e =
-        let front : take n (y ++ rest) ≡ modelBytes (S .model) = take-at y rest n y-long ∙ bytes-are in
-        record {
-          is = λ m d. let x : S .model ≡ m = cc (S .is, d) in e ∙ ap verdict front ∙ ap (λ (a : Model). verdict (modelBytes a)) x;
-        }
+    -- refuses, whatever the output is;
+    module _ {r i : ℕ} (f : v ≡ verdicts.Refused r i) where
+      pub bytes-refused : (before : List ℕ) → writeRefused (record { number = r; node = i }) before ≡ writeOutcome ns ts before
+      bytes-refused before = writing-is (refused-bytes (S .is) (judged f))
 
-  -- the verdict
-  module _ (v : Verdict) (J : Judges ns ts (verdictOf v)) where
-    -- refuses,
-    pub description-refused : (before : List ℕ) {r i : ℕ} → v ≡ verdicts.Refused r i
-        → writeRefused (record { number = r; node = i }) before ≡ writeOutcome ns ts before
-    description-refused before f = writing-is (refused-bytes (S .is) (sym (J .is (S .model) (S .is)) ∙ ap verdictOf f))
+      -- what stood there was kept, and is put back
+      pub put-back : {space kept z : List ℕ} → Stored space kept 0 place → length space ≡ length place → Stored y z 0 kept
+          → writeRefused (record { number = r; node = i }) z ≡ writeOutcome ns ts place
+      put-back P same Q =
+          let is = filled P (sym same) in
+          let long : length y ≡ length place = ap length bytes-are ∙ sym (S .size-is) in
+          ap (writeRefused (record { number = r; node = i })) (filled Q (ap length is ∙ sym long) ∙ is) ∙ bytes-refused place
 
     -- or accepts,
     module _ {k : ℕ} (f : v ≡ verdicts.Accepted k) where
-      accepts : verdict (modelBytes (S .model)) ≡ accepted k
-      accepts = sym (J .is (S .model) (S .is)) ∙ ap verdictOf f
+      -- and an output is too short,
+      pub no-room : (before : List ℕ) → length before < length place → writeRefused (plain shortOutput) before ≡ writeOutcome ns ts before
+      no-room before h = writing-is (short-output (S .is) (judged f) (omega (arith, S .size-is)))
 
-      -- and there is too little room,
-      pub no-room : (before : List ℕ) → length before < n → writeRefused (plain shortOutput) before ≡ writeOutcome ns ts before
-      no-room before h = writing-is (short-output (S .is) accepts (omega (arith, S .size-is)))
+      -- or the bytes stay
+      pub bytes-written : record { answer = written (length y); output = y } ≡ writeOutcome ns ts place
+      bytes-written =
+          let bs = modelBytes (S .model) in
+          ap (λ (b : List ℕ). record { answer = written (length b); output = b }) bytes-are ∙
+          ap (λ (o : List ℕ). record { answer = written (length bs); output = o }) (sym (covered bs place (sym (S .size-is)))) ∙
+          writing-is (on-output (S .is) (judged f) (omega (arith, S .size-is)))
 
-      -- or enough
-      pub all-written : (before y : List ℕ) → n ≤ length before → Written ns ts (take n before) y
-          → record { answer = written n; output = y ++ drop n before } ≡ writeOutcome ns ts before
-      all-written before y h W =
-          let same = bytes-are W (length-take-le n before h) in
-          let s = S .size-is in
-          (λ i. record { answer = written (s i); output = same i ++ drop (s i) before }) ∙
-          writing-is (on-output (S .is) accepts (omega (arith, s)))
+-- ---- the place is the front of an output
+
+module _ {ns ts : List ℕ} {n : ℕ} (S : Sized ns ts n) (before : List ℕ) (h : n ≤ length before) where
+  abbrev widened : WriteOutcome → WriteOutcome
+  widened o = record { answer = o .answer; output = o .output ++ drop n before }
+
+  -- and what is behind it stays
+  pub on-the-front : {o : WriteOutcome} → o ≡ writeOutcome ns ts (take n before) → widened o ≡ writeOutcome ns ts before
+  on-the-front e = ap widened e ∙ go (verdict (modelBytes (S .model))) refl
+    where
+      go : (v : Judged) → verdict (modelBytes (S .model)) ≡ v → widened (writeOutcome ns ts (take n before)) ≡ writeOutcome ns ts before
+      go (refused r i) v =
+          ap widened (sym (writing-is (refused-bytes (S .is) v))) ∙
+          ap (writeRefused (record { number = r; node = i })) (take-append-drop n before) ∙
+          writing-is (refused-bytes (S .is) v)
+      go (accepted k) v =
+          let bs = modelBytes (S .model) in
+          let long : length bs ≡ length (take n before) = sym (S .size-is) ∙ sym (length-take-le n before h) in
+          ap widened (sym (writing-is (on-output (S .is) v (omega arith)))) ∙
+          (λ j. record { answer = written (length bs); output = covered bs (take n before) long j ++ drop (S .size-is j) before }) ∙
+          writing-is (on-output (S .is) v (omega (arith, S .size-is)))

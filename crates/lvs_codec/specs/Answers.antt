@@ -1,14 +1,13 @@
--- Each case of an answer's enum, with the numbers and values of docs/format.md; and what the writing call's own function promises.
-use Prim.Native.Nat.{ℕ, _≤_}
+-- Each case of an answer's enum, with the numbers and values of docs/format.md; and what the functions of the writing call promise each other.
+use Prim.Native.Nat.{ℕ, _≤_, _<_}
 use mathlib.Core.Path.{_≡_}
 use mathlib.Core.List.{List}
 use mathlib.Core.Option.{some}
 use lib.ListN.{length}
 use Rattle.lvs_spec.specs.Limits.{maxModelBytes}
 use Rattle.lvs_spec.specs.Model.{Model}
-use Rattle.lvs_spec.specs.Verdict.{Verdict, verdict}
 use Rattle.lvs_description.specs.Description.{modelBytes, descriptionOf}
-use Rattle.lvs_description.specs.Answers.{WriteAnswer as Writing, DescribeAnswer as Describing}
+use Rattle.lvs_description.specs.Answers.{WriteAnswer as Writing, DescribeAnswer as Describing, writeOutcome}
 use Rattle.lvs_codec.specs.declared.WriteAnswer.{WriteAnswer}
 use Rattle.lvs_codec.specs.declared.WriteAnswer.the-variants as writings
 use Rattle.lvs_codec.specs.declared.DescribeAnswer.{DescribeAnswer}
@@ -29,6 +28,10 @@ pub record Sized (ns ts : List ℕ) (size : ℕ) : Type 0 where
   pub size-is : size ≡ length (modelBytes model)
   pub small : size ≤ maxModelBytes
 
--- v is the verdict on the bytes of the description
-pub record Judges (ns ts : List ℕ) (v : Verdict) : Type 0 where
-  pub is : (m : Model) → descriptionOf ns ts ≡ some m → v ≡ verdict (modelBytes m)
+-- r is the answer to the two lists and an output that held `before`, and then holds `after`
+abbrev pub Answered : List ℕ → List ℕ → List ℕ → WriteAnswer → List ℕ → Type 0
+Answered ns ts before r after = record { answer = writeAnswerOf r; output = after } ≡ writeOutcome ns ts before
+
+-- r is the answer to the two lists and any output of fewer than `size` bytes, which stays
+pub record AnsweredShort (ns ts : List ℕ) (size : ℕ) (r : WriteAnswer) : Type 0 where
+  pub is : (before : List ℕ) → length before < size → Answered ns ts before r before

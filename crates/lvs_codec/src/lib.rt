@@ -1,8 +1,9 @@
 // Models written from their descriptions, and taken apart into them (docs/format.md, 12): two public calls. Any lists and any bytes have an answer.
 ghost use mathlib.Core.Path.{_≡_};
+ghost use Prim.Native.Nat.{_≤_};
+ghost use lib.ListN.{length};
 ghost use Rattle.lvs_description.specs.Answers.{writeOutcome, describeOutcome};
-ghost use Rattle.lvs_codec.specs.Answers.{writeAnswerOf, describeAnswerOf, Sized, Judges};
-ghost use Rattle.lvs.specs.Answers.{verdictOf};
+ghost use Rattle.lvs_codec.specs.Answers.{writeAnswerOf, describeAnswerOf, Sized, Answered, AnsweredShort};
 use lvs::Verdict;
 use lvs_describe::Described;
 use lvs_write::Size;
@@ -11,6 +12,9 @@ use lvs_write::Size;
 const NO_DESCRIPTION: u32 = 30;
 
 const SHORT_OUTPUT: u32 = 31;
+
+// The most bytes of a description that is written with little space.
+const SMALL: usize = 4096;
 
 // Written with this many bytes; or refused, with a node index.
 pub enum WriteAnswer {
@@ -38,28 +42,71 @@ pub fn write_model(numbers: &[u64], texts: &[u8], output: &mut [u8]) -> WriteAns
     if lvs_spec::MAX_MODEL_BYTES < size {
         return WriteAnswer::Refused { number: 1, node: 0 };
     }
-    if let Verdict::Refused { number, node } = judge_description(numbers, texts, size) {
-        return WriteAnswer::Refused { number, node };
+    if size <= SMALL {
+        return write_small(numbers, texts, size, output);
     }
-    if output.len() < size {
-        return WriteAnswer::Refused {
-            number: SHORT_OUTPUT,
-            node: 0,
-        };
-    }
-    lvs_write::write_description(numbers, texts, &mut output[..size]);
-    WriteAnswer::Written(size)
+    write_large(numbers, texts, size, output)
 }
 
-// The verdict on a description's bytes, which are written into space of this function's own: the lent output may be too short for them, and a
-// refusal keeps it.
-fn judge_description(numbers: &[u64], texts: &[u8], size: usize) -> Verdict
+// The same with space for a small description, and with space for any: zeroing the larger array costs more than a small description does.
+fn write_small(numbers: &[u64], texts: &[u8], size: usize, output: &mut [u8]) -> WriteAnswer
+    requires { ⌜ Sized (now numbers) (now texts) size × (size ≤ 4096) ⌝ }
+    ensures { λ r. ⌜ Answered (now (numbers .entry)) (now (texts .entry)) (now (output .entry)) r (now (output .exit)) ⌝ }
+{
+    let mut space = [0u8; SMALL];
+    write_with(numbers, texts, output, &mut space[..size])
+}
+
+fn write_large(numbers: &[u64], texts: &[u8], size: usize, output: &mut [u8]) -> WriteAnswer
     requires { ⌜ Sized (now numbers) (now texts) size ⌝ }
-    ensures { λ r. ⌜ Judges (now (numbers .entry)) (now (texts .entry)) (verdictOf r) ⌝ }
+    ensures { λ r. ⌜ Answered (now (numbers .entry)) (now (texts .entry)) (now (output .entry)) r (now (output .exit)) ⌝ }
 {
     let mut space = [0u8; lvs_spec::MAX_MODEL_BYTES];
-    lvs_write::write_description(numbers, texts, &mut space[..size]);
-    lvs::judge_model(&space[..size])
+    write_with(numbers, texts, output, &mut space[..size])
+}
+
+// The same with space for just the description's bytes.
+fn write_with(numbers: &[u64], texts: &[u8], output: &mut [u8], space: &mut [u8]) -> WriteAnswer
+    requires { ⌜ Sized (now numbers) (now texts) (length (now space)) ⌝ }
+    ensures { λ r. ⌜ Answered (now (numbers .entry)) (now (texts .entry)) (now (output .entry)) r (now (output .exit)) ⌝ }
+{
+    let size = space.len();
+    if output.len() < size {
+        return refuse_short(numbers, texts, space);
+    }
+    write_over(numbers, texts, &mut output[..size], space)
+}
+
+// The answer where the output is too short: the bytes are judged in the space, since their refusal comes before 31.
+fn refuse_short(numbers: &[u64], texts: &[u8], space: &mut [u8]) -> WriteAnswer
+    requires { ⌜ Sized (now numbers) (now texts) (length (now space)) ⌝ }
+    ensures { λ r. ⌜ AnsweredShort (now (numbers .entry)) (now (texts .entry)) (length (now (space .entry))) r ⌝ }
+{
+    lvs_write::write_description(numbers, texts, space);
+    match lvs::judge_model(space) {
+        Verdict::Refused { number, node } => WriteAnswer::Refused { number, node },
+        Verdict::Accepted { .. } => WriteAnswer::Refused {
+            number: SHORT_OUTPUT,
+            node: 0,
+        },
+    }
+}
+
+// Writes over a place of just as many bytes and judges them there, so that they are written only once. What stood there is kept in the space, and
+// put back after a refusal.
+fn write_over(numbers: &[u64], texts: &[u8], place: &mut [u8], space: &mut [u8]) -> WriteAnswer
+    requires { ⌜ Sized (now numbers) (now texts) (length (now place)) × (length (now space) ≡ length (now place)) ⌝ }
+    ensures { λ r. ⌜ Answered (now (numbers .entry)) (now (texts .entry)) (now (place .entry)) r (now (place .exit)) ⌝ }
+{
+    tlv_writer::put_bytes(space, 0, place);
+    lvs_write::write_description(numbers, texts, place);
+    match lvs::judge_model(place) {
+        Verdict::Refused { number, node } => {
+            tlv_writer::put_bytes(place, 0, space);
+            WriteAnswer::Refused { number, node }
+        }
+        Verdict::Accepted { .. } => WriteAnswer::Written(place.len()),
+    }
 }
 
 // Takes an accepted model apart, over the front of two lent lists; what is behind stays. A refusal keeps all.
