@@ -202,7 +202,7 @@ same-answers same-match same-sign =
       signed = λ {packet} {key} {r} {q} c d. same-signing r q (signed-is c ∙ same-sign packet key ∙ sym (signed-is d));
     }
 
-same-calls : {a b : List ℕ} → Alike a b → SameCalls a b
+pub same-calls : {a b : List ℕ} → Alike a b → SameCalls a b
 same-calls s =
     record {
       judged = λ {r} {q} c d. same-verdict r q (judged-is c ∙ s .verdicts ∙ sym (judged-is d));

@@ -19,12 +19,11 @@ use denote.Ref.{at-last}
 use Rattle.tlv.specs.Bytes.{Bytes}
 use Rattle.lvs_spec.specs.Model.{Model, modelOf}
 use Rattle.lvs_spec.specs.Verdict.{accepted, refused, describes, reading, verdict}
-use Rattle.lvs_spec.specs.Answers.{Outcome, Refusal}
-use Rattle.lvs_spec.specs.Demands.{Alike}
+use Rattle.lvs_spec.specs.Answers.{Refusal}
 use Rattle.lvs.specs.declared.Verdict.{Verdict}
 use Rattle.lvs.specs.declared.Verdict.the-variants as verdicts
-use Rattle.lvs.proofs.Same.{same-verdict, same-matching, same-signing}
-use Rattle.lvs.proofs.Demands.{Slice, Judged, judged-is, matched-is, signed-is, SameCalls}
+use Rattle.lvs.proofs.Same.{same-verdict}
+use Rattle.lvs.proofs.Demands.{Slice, Judged, judged-is, SameCalls, same-calls}
 use Rattle.lvs_description.specs.Description.{modelBytes, descriptionOf, numbersOf, textsOf}
 use Rattle.lvs_description.specs.Answers.{noDescription, shortOutput, onFront, WriteOutcome, writeOutcome, DescribeOutcome, describeOutcome}
 use Rattle.lvs_description.proofs.Refusals.{writeRefusals, describeRefusals}
@@ -236,18 +235,6 @@ pub record Rewritten (b : List ℕ) (r : WriteAnswer) (after : List ℕ) : Type 
   pub same-description : {ns ts numbers texts numbers′ texts′ : List ℕ} {q q′ : DescribeAnswer} → Described (take size after) ns ts q numbers texts
       → Described b ns ts q′ numbers′ texts′ → (q ≡ q′) × ((numbers ≡ numbers′) × (texts ≡ texts′))
 
-alike-calls : {a b : List ℕ} → Alike a b → SameCalls a b
-alike-calls s =
-    record {
-      judged = λ {r} {q} c d. same-verdict r q (judged-is c ∙ s .verdicts ∙ sym (judged-is d));
-      answers = record {
-        matched = λ {name} {buffer} {r = r} {q = q} c d.
-            let e = matched-is c ∙ s .matched name buffer ∙ sym (matched-is d) in
-            (same-matching r q (ap (λ (o : Outcome). o .answer) e), ap (λ (o : Outcome). o .words) e);
-        signed = λ {packet} {key} {r} {q} c d. same-signing r q (signed-is c ∙ s .signed packet key ∙ sym (signed-is d));
-      };
-    }
-
 -- it is written, where there is as much room as the model has
 pub described-again : {b ns ts numbers texts before after : List ℕ} {n t : ℕ} {r : WriteAnswer} → Bytes b
     → Described b ns ts (describings.Described n t) numbers texts → Wrote (take n numbers) (take t texts) before r after → length b ≤ length before
@@ -261,7 +248,7 @@ described-again {b} {before = before} {r = r} by c w room =
       answer-is = e;
       no-longer = calls.rewritten-no-longer by d k;
       same-reading = calls.rewritten-reads by d k;
-      same-calls = alike-calls (calls.rewritten-alike by d k);
+      same-calls = same-calls (calls.rewritten-alike by d k);
       same-description = λ {ns} {ts} {q = q} {q′} x y. of-outcome x (described-is y ∙ sym (calls.rewritten-described by d k ns ts));
     }
 
@@ -283,7 +270,7 @@ written-one c d same = calls.written-one (written-by c) (written-by d) same
 pub described-one : {a b ns ts ns′ ts′ numbers texts numbers′ texts′ : List ℕ} {n t n′ t′ : ℕ}
     → Described a ns ts (describings.Described n t) numbers texts → Described b ns′ ts′ (describings.Described n′ t′) numbers′ texts′
     → take n numbers ≡ take n′ numbers′ → take t texts ≡ take t′ texts′ → SameCalls a b
-described-one {a} {b} c d e f = alike-calls (theorem.reading-alike a b (calls.described-one (described-by c) (described-by d) e f))
+described-one {a} {b} c d e f = same-calls (theorem.reading-alike a b (calls.described-one (described-by c) (described-by d) e f))
 
 -- ---- a refused description gets the very numbers of the verdict on its bytes
 
