@@ -13,7 +13,7 @@ use Rattle.lvs_description.specs.Format.{_then_, under, times, many, within, be
 use Rattle.lvs_spec.specs.Model.{ValueEdge}
 use Rattle.lvs_description.specs.Description.{valueEdge}
 use Rattle.lvs_write.specs.Spelled.{Bytes, spelled, textFrom, after, wrapped, run, counted}
-use Rattle.lvs_write.specs.Steps.{el, versionFrom}
+use Rattle.lvs_write.specs.Steps.{el, edgeBytes, versionFrom}
 use Rattle.lvs_write.proofs.Sizes.{encode-one, encode-append}
 
 -- two ways to read the same
@@ -82,8 +82,7 @@ pair-spelled t u l =
     (λ k. refl) (λ p. both-encoded t u (integerBytes (p .0)) (integerBytes (p .1))) l
 
 abbrev pub valueEdgeBytes : ValueEdge → List ℕ
-valueEdgeBytes e =
-    el type.ValueEdge (el type.NodeId (integerBytes (e .destination)) ++ el type.Value (el (e .value .type) (e .value .inside)))
+valueEdgeBytes e = el type.ValueEdge (edgeBytes (e .destination) (e .value .type) (e .value .inside))
 
 pub value-edge-spelled : (l : Lists)
     → spelled (within type.ValueEdge valueEdge) l ≡ bind (valueEdge .from l) (λ x. some (valueEdgeBytes (x .0), x .1))

@@ -11,12 +11,13 @@ use lib.Dec.{leb}
 use lib.ListN.{length, take, drop, length-drop}
 use lib.Seq.{length-take-le, take-at, drop-at, drop-drop}
 use Rattle.tlv_writer.specs.Stored.{Stored}
-use Rattle.tlv_writer.proofs.Stores.{stored-both, stored-length, stored-inside}
+use Rattle.tlv_writer.proofs.Stores.{stored-length}
 use Rattle.lvs_description.specs.Format.{Lists}
 use Rattle.lvs_write.specs.declared.Cursor.{Cursor}
 use Rattle.lvs_write.specs.Spelled.{Bytes, wrapped}
 use Rattle.lvs_write.specs.Steps.{el, capped, elementSize, headerBytes, listsAt, stateOf, movedBy, Writes}
-use Rattle.lvs_write.proofs.Sizes.{capped-low, capped-is, capped-add, capped-capped, capped-element, header-then, element-length, element-room}
+use Rattle.lvs_write.proofs.Sizes.{capped-low, capped-is, capped-add, capped-capped, capped-element, element-length, element-room}
+use Rattle.lvs_write.proofs.Places.{puts-lent}
 use Rattle.lvs_write.proofs.Moves.{apart, state-ok, state-not, moved-none, moved-some, stopped-wrote, one-wrote}
 
 -- the same place, where nothing has been written yet
@@ -131,7 +132,6 @@ module _ {g : Lists → Bytes} {ns ts e e′ : List ℕ} (s : Cursor) {m : Curso
         written
         (λ h room.
         let x = exact h in
-        let k : end - start ≡ n = omega arith in
         let fits : s .at + size ≤ length b = leb-true _ _ e in
         let long : elementSize t n ≡ length (headerBytes t n) + n = element-room t n in
         let b-long : length b₁ ≡ length b = stored-length H in
@@ -141,9 +141,7 @@ module _ {g : Lists → Bytes} {ns ts e e′ : List ℕ} (s : Cursor) {m : Curso
         W .put 0 _ bs (I .rest) (begin (I .ok) ∙ ap (λ (j : ℕ). some (j, L)) (capped-is 0 (omega arith))) (I .is)
         (omega (arith, x .0))
         (omega (arith, x .0)) in
-        let behind = stored-inside b₁ start (end - start) (omega arith) (omega (arith, x .0)) back in
-        let head : headerBytes t n ++ bs ≡ el t bs = ap (λ (j : ℕ). headerBytes t j ++ bs) (x .0) ∙ header-then t bs in
-        subst (Stored b (putMid start (end - start) b₁ y) (s .at)) head (stored-both H behind (sym start-is)))
+        puts-lent t (s .at) n size-is (x .0) (start-is, H) end-is (omega arith) back .put fits)
 
 -- nothing was written into a part of no bytes
 pub untouched : (b y : List ℕ) → length y ≡ 0 → putMid 0 0 b y ≡ b

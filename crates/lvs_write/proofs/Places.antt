@@ -7,21 +7,22 @@ use Prim.Native.Nat.{ℕ, _+_, _-_, _^_, _≤_, _<_, min}
 use native.Mathlib.Numerals.{add-one}
 use native.Mathlib.Omega.{arith}
 use borrow.Author.Tests.{lt-ltb, le-ltb, le-leb, lt-leb, leb-true, leb-false, ltb-true}
+use borrow.Rule.Slice.PartMut.{putMid}
 use lib.Dec.{leb, ltb, lit≤}
 use lib.ListN.{length, take, drop, getD, length-append, length-drop, drop-of-length-le}
-use lib.Seq.{drop-cons, drop-drop}
+use lib.Seq.{drop-cons, drop-drop, length-take-le}
 use Rattle.tlv.specs.Lists.{bind}
 use Rattle.tlv.specs.Bytes.{bigEndianBytes}
 use Rattle.tlv.specs.Number.{numberBytes, integerSize}
 use Rattle.tlv.proofs.Bytes.{length-spelled}
 use Rattle.tlv_writer.proofs.Numbers.{number-most}
 use Rattle.tlv_writer.specs.Stored.{Stored, Digits}
-use Rattle.tlv_writer.proofs.Stores.{stored-both, stored-length}
+use Rattle.tlv_writer.proofs.Stores.{stored-both, stored-length, stored-inside}
 use Rattle.lvs_description.specs.Format.{Lists, Taken, bytesOf, takeText, takeComponent, integerWidth, integerBytes}
 use Rattle.lvs_description.specs.Description.{valueEdge}
 use Rattle.lvs_spec.specs.Types as type
 use Rattle.lvs_write.specs.declared.Cursor.{Cursor}
-use Rattle.lvs_write.specs.Steps.{capped, el, elementSize, headerBytes, stateOf, takenBy, Took, TookNumber, TookText, Puts}
+use Rattle.lvs_write.specs.Steps.{capped, el, edgeBytes, elementSize, headerBytes, stateOf, takenBy, Took, TookNumber, TookText, Puts}
 use Rattle.lvs_write.proofs.Sizes.{header-then, header-length, element-length, element-room}
 use Rattle.lvs_write.proofs.Moves.{apart, state-ok, state-not, took-ok, took-none}
 
@@ -137,8 +138,20 @@ module _ (t at n : ℕ) {size : ℕ} (size-is : size ≡ elementSize t n) where
         put = λ room. subst (Stored b b₂ at) head (stored-both (H .1) P (sym (H .0)));
       }
 
+  -- the inside was written into its place behind the header, a part that was lent
+  pub puts-lent : {b b₁ y i : List ℕ} {start end : ℕ} → n ≡ length i → (start ≡ at + length (headerBytes t n)) × Stored b b₁ at (headerBytes t n)
+      → end ≡ start + n → end ≤ length b₁ → Stored (take (end - start) (drop start b₁)) y 0 i → Puts b (putMid start (end - start) b₁ y) at (el t i) size
+  puts-lent {b} {b₁} {y} {i} {start} {end} n-is H end-is fits P =
+      puts-all n-is H (stored-inside b₁ start (end - start) (omega arith) (omega arith) P)
+
   pub puts-none : {b : List ℕ} (i : List ℕ) {r : Bool} → n ≡ length i → r ≡ leb (at + size) (length b) → r ≡ false → Puts b b at (el t i) size
   puts-none i n-is e f = put-none at (el t i) (size-is ∙ ap (elementSize t) n-is ∙ sym (element-length t i)) e f
+
+-- the part of a list that is lent has just the room
+pub lent-room : (start n : ℕ) (b : List ℕ) {k : ℕ} → n ≡ k → start + n ≤ length b → k ≡ length (take (start + n - start) (drop start b))
+lent-room start n b e h =
+    let same : start + n - start ≡ n = omega arith in
+    sym e ∙ sym (length-take-le n (drop start b) (simp length-drop (omega arith))) ∙ ap (λ (j : ℕ). length (take j (drop start b))) (sym same)
 
 pub header-both : (t n at : ℕ) {b₀ b₁ b₂ : List ℕ} {middle r : ℕ} → (middle ≡ at + length (numberBytes t)) × Stored b₀ b₁ at (numberBytes t)
     → (r ≡ middle + length (numberBytes n)) × Stored b₁ b₂ middle (numberBytes n) → (r ≡ at + length (headerBytes t n)) × Stored b₀ b₂ at (headerBytes t n)
@@ -189,37 +202,32 @@ module _ (at a x b y : ℕ) {first second : ℕ} (first-is : first ≡ length (e
       → Puts b₀ b₀ at (el a (integerBytes x) ++ el b (integerBytes y)) (first + second)
   pair-none = put-none at _ (both-size at (el a (integerBytes x)) (el b (integerBytes y)) first-is second-is)
 
--- a ValueEdge's destination, and its component in a Value
-abbrev destination : ℕ → List ℕ
-destination to = el type.NodeId (integerBytes to)
+-- a ValueEdge: its destination, and its component in a Value
+module _ (to c : ℕ) (src : List ℕ) where
+  abbrev destination : List ℕ
+  destination = el type.NodeId (integerBytes to)
 
-abbrev value : ℕ → List ℕ → List ℕ
-value c src = el type.Value (el c src)
+  abbrev value : List ℕ
+  value = el type.Value (el c src)
 
-module _ (to c : ℕ) (src : List ℕ) {first m second : ℕ} (first-is : (first ≡ length (el type.NodeId (integerBytes to))) × (first ≤ 26))
-    (m-is : m ≡ elementSize c (length src)) (second-is : second ≡ elementSize type.Value m) where
-  value-size : second ≡ length (value c src)
-  value-size = second-is ∙ ap (elementSize type.Value) (component-size c src m-is) ∙ sym (element-length type.Value (el c src))
+  pub edge-stored : {b b₁ b₂ : List ℕ} {i j : ℕ} → length (edgeBytes to c src) ≡ length b → Puts b b₁ 0 destination i → Puts b₁ b₂ i value j
+      → Stored b b₂ 0 (edgeBytes to c src)
+  edge-stored {b} {b₁} {b₂} {i} {j} long P Q =
+      let first : 0 + i ≡ i = omega arith in
+      both-stored 0 destination value (P .size-is) (Q .size-is) (omega (arith, P .size-is, Q .size-is, length-append destination value)) P
+      (subst (λ (k : ℕ). Puts b₁ b₂ k value j) (sym first) Q)
 
-  edge-size : first + second ≡ length (destination to ++ value c src)
-  edge-size = both-size 0 (destination to) (value c src) (first-is .0) value-size
+  module _ {first m second : ℕ} (first-is : (first ≡ length destination) × (first ≤ 26)) (m-is : m ≡ elementSize c (length src))
+      (second-is : second ≡ elementSize type.Value m) where
+    pub edge-length : first + second ≡ length (edgeBytes to c src)
+    edge-length =
+        both-size 0 destination value (first-is .0)
+        (second-is ∙ ap (elementSize type.Value) (component-size c src m-is) ∙ sym (element-length type.Value (el c src)))
 
-  pub edge-small : length src < 2 ^ 63 → first + second + 18 < 2 ^ 64
-  unfolding elementSize
-  edge-small h =
-      omega (arith, m-is, second-is, first-is .1, number-most c, number-most (length src), number-most type.Value, number-most m)
-
-  module _ (at : ℕ) {size : ℕ} (size-is : size ≡ elementSize type.ValueEdge (first + second)) where
-    pub edge-put : {b b₁ b₂ b₃ : List ℕ} {start i j : ℕ} {r : Bool} → r ≡ leb (at + size) (length b) → r ≡ true
-        → (start ≡ at + length (headerBytes type.ValueEdge (first + second))) × Stored b b₁ at (headerBytes type.ValueEdge (first + second))
-        → Puts b₁ b₂ start (destination to) i → Puts b₂ b₃ (start + first) (value c src) j
-        → Puts b b₃ at (el type.ValueEdge (destination to ++ value c src)) size
-    edge-put {start = start} e f H P Q =
-        puts-all type.ValueEdge at (first + second) size-is edge-size H
-        (both-stored start (destination to) (value c src) (first-is .0) value-size (inside-fits type.ValueEdge at (first + second) size-is e f H) P Q)
-
-    pub edge-none : {b : List ℕ} {r : Bool} → r ≡ leb (at + size) (length b) → r ≡ false → Puts b b at (el type.ValueEdge (destination to ++ value c src)) size
-    edge-none = puts-none type.ValueEdge at (first + second) size-is (destination to ++ value c src) edge-size
+    pub edge-small : length src < 2 ^ 63 → first + second + 18 < 2 ^ 64
+    unfolding elementSize
+    edge-small h =
+        omega (arith, m-is, second-is, first-is .1, number-most c, number-most (length src), number-most type.Value, number-most m)
 
 -- ---- numbers and texts, taken
 

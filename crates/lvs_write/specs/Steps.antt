@@ -13,7 +13,7 @@ use Rattle.lvs_spec.specs.Limits.{maxModelBytes}
 use Rattle.lvs_spec.specs.Types as type
 use Rattle.lvs_spec.specs.WellFormed.{thisVersion}
 use Rattle.lvs_spec.specs.Model.{Model}
-use Rattle.lvs_description.specs.Format.{Lists, Taken, takeNumber, takeText, holds}
+use Rattle.lvs_description.specs.Format.{Lists, Taken, takeNumber, takeText, integerBytes, holds}
 use Rattle.lvs_description.specs.Description.{modelBytes, descriptionOf}
 use Rattle.lvs_write.specs.declared.Cursor.{Cursor}
 use Rattle.lvs_write.specs.declared.Size.{Size}
@@ -73,6 +73,10 @@ headerBytes t n = numberBytes t ++ numberBytes n
 -- an element of type t
 abbrev pub el : ℕ → List ℕ → List ℕ
 el t i = elementBytes (record { type = t; inside = i })
+
+-- the inside of a ValueEdge to a Node, with a component of type c
+abbrev pub edgeBytes : ℕ → ℕ → List ℕ → List ℕ
+edgeBytes to c i = el type.NodeId (integerBytes to) ++ el type.Value (el c i)
 
 -- bs was put at a place, if there is room for all of it; it has `size` bytes
 pub record Puts (before now : List ℕ) (at : ℕ) (bs : List ℕ) (size : ℕ) : Type 0 where

@@ -9,7 +9,7 @@ ghost use Rattle.lvs_spec.specs.Types as type;
 ghost use Rattle.lvs_description.specs.Format.{integer, integerWidth, integerBytes, component, _then_, within};
 ghost use Rattle.lvs_description.specs.Description.{valueEdge};
 ghost use Rattle.lvs_write.specs.Spelled.{spelled, textFrom};
-ghost use Rattle.lvs_write.specs.Steps.{capped, el, elementSize, headerBytes, Puts, Writes, WritesNumbers};
+ghost use Rattle.lvs_write.specs.Steps.{capped, el, edgeBytes, elementSize, headerBytes, Puts, Writes, WritesNumbers};
 use crate::Cursor;
 use crate::lists::take_number;
 use crate::lists::take_text;
@@ -153,23 +153,31 @@ fn put_pair(out: &mut [u8], at: usize, a: u64, x: u64, b: u64, y: u64) -> usize
     size
 }
 
-// A ValueEdge: its destination, and its component in a Value.
+// A ValueEdge: its destination, and its component in a Value, in their place behind its header.
 fn put_value_edge(out: &mut [u8], at: usize, to: u64, component: u64, src: &[u8]) -> usize
     ensures { λ r.
         ⌜
-        Puts (now (out .entry)) (now (out .exit)) at
-        (el type.ValueEdge (el type.NodeId (integerBytes to) ++ el type.Value (el component (now (src .entry))))) r
+        Puts (now (out .entry)) (now (out .exit)) at (el type.ValueEdge (edgeBytes to component (now (src .entry)))) r
         ⌝ }
 {
     let first = integer_size(NODE_ID as u64, to);
     let n = first + element_size(VALUE as u64, element_size(component, src.len()));
     let size = element_size(VALUE_EDGE as u64, n);
     if has_room(out.len(), at, size) {
-        let inside = put_header(out, at, VALUE_EDGE as u64, n as u64);
-        put_integer(out, inside, NODE_ID as u64, to);
-        put_component(out, inside + first, VALUE as u64, component, src);
+        let start = put_header(out, at, VALUE_EDGE as u64, n as u64);
+        let end = start + n;
+        put_edge_inside(&mut out[start..end], to, component, src);
     }
     size
+}
+
+// The inside of a ValueEdge, over all of `out`.
+fn put_edge_inside(out: &mut [u8], to: u64, component: u64, src: &[u8])
+    requires { ⌜ length (edgeBytes to component (now src)) ≡ length (now out) ⌝ }
+    ensures { λ _. ⌜ Stored (now (out .entry)) (now (out .exit)) 0 (edgeBytes to component (now (src .entry))) ⌝ }
+{
+    let first = put_integer(out, 0, NODE_ID as u64, to);
+    put_component(out, first, VALUE as u64, component, src);
 }
 
 // ---- a leaf of the description
