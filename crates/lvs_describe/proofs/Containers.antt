@@ -2,15 +2,19 @@
 use mathlib.Core.Path.{_≡_, subst}
 use mathlib.Core.Bool.{true, false}
 use mathlib.Core.List.{List}
-use Prim.Native.Nat.{ℕ, _≤_, _<_}
+use Prim.Native.Nat.{ℕ, _-_, _≤_, _<_}
+use native.Mathlib.Omega.{arith}
 use borrow.Author.Tests.{ne-eqb}
-use lib.ListN.{length}
+use lib.ListN.{length, drop, length-drop}
+use lib.Seq.{take-all}
 use Rattle.tlv.specs.Lists.{first}
 use Rattle.tlv.specs.Fields.{InsideOf, numberOf, integers, theInteger, theInside}
 use Rattle.tlv.specs.declared.Part.{Part}
 use Rattle.lvs_spec.specs.Types as type
 use Rattle.lvs_spec.specs.Leaves.{marked}
 use Rattle.lvs_spec.specs.Model.{componentOf, argumentOf, callOf, valueEdgeOf, patternEdgeOf, nodeOf, symbolOf, modelOf}
+use Rattle.lvs_edges.specs.Crossing.{FieldsOf}
+use Rattle.lvs_edges.specs.declared.PatternFields.{PatternFields}
 use Rattle.lvs_description.specs.Format.{Lists, put, putText, Format, integer, text, component, _then_, maybe, many}
 use Rattle.lvs_description.specs.Description.{argument, call, valueEdge, patternEdge, node, symbol, listsOf}
 use Rattle.lvs_describe.specs.Parts.{nothing, number, shown}
@@ -21,7 +25,7 @@ use Rattle.lvs_describe.specs.declared.Component.{Component}
 use Rattle.lvs_describe.specs.declared.Held.{Held}
 use Rattle.lvs_describe.specs.declared.Sort.{Sort}
 use Rattle.lvs_describe.specs.declared.Sort.the-variants as sort
-use Rattle.lvs_describe.proofs.Puts.{describes-then, any-first, any-second}
+use Rattle.lvs_describe.proofs.Puts.{describes-then}
 use Rattle.lvs_describe.proofs.Appended.{Appended, integer-appended, text-appended, maybe-appended, many-appended, within-appended}
 use Rattle.lvs_describe.proofs.Appended.{valueEdge-appended, patternEdge-appended, node-appended}
 use Rattle.lvs_describe.proofs.Items.{Row, nodes-are, symbols-are, names-are, values-are, patterns-are, signers-are, constraints-are, options-are}
@@ -67,10 +71,10 @@ module _ (b : List ℕ) {s s₁ : State} where
   unfolding own shown
   no-parent-put g e h d = rw (no-parent b e h, ← g) d
 
-  pub value-edge-put : {n : ℕ} {p : Part} → (s .room .numbers ≤ length (s .numbers) → n ≡ theInteger type.NodeId b) → InsideOf b type.Value p
-      → Describes (put n (shown (component type.Value) (componentOf (part b (p .start) (p .end))))) s s₁ → Describes (shown valueEdge (valueEdgeOf b)) s s₁
+  pub value-edge-put : {n : ℕ} {v : List ℕ} → n ≡ theInteger type.NodeId b → v ≡ theInside type.Value b
+      → Describes (put n (shown (component type.Value) (componentOf v))) s s₁ → Describes (shown valueEdge (valueEdgeOf b)) s s₁
   unfolding shown valueEdgeOf
-  value-edge-put e at d = rw (← (at .is)) (any-first e d)
+  value-edge-put e f d = rw (← e, ← f) d
 
   pub symbol-put : {n : ℕ} {p : Part} → n ≡ theInteger type.Tag b → InsideOf b type.Identifier p
       → Describes (put n (putText (part b (p .start) (p .end)) nothing)) s s₁ → Describes (shown symbol (symbolOf b)) s s₁
@@ -98,11 +102,13 @@ module _ (b : List ℕ) {s s₁ s₂ : State} where
       numbered-then (text type.FnId (marked 36)) (theInside type.FnId b) 2 (text-appended type.FnId (marked 36)) (rw (← (at .is)) d)
       (row-puts arguments-are b g)
 
-  pub pattern-edge-put : {n t : ℕ} → (s .room .numbers ≤ length (s .numbers) → n ≡ theInteger type.NodeId b)
-      → (s .room .numbers ≤ length (s .numbers) → t ≡ theInteger type.Tag b) → Describes (put n (number t)) s s₁
-      → Describes (rowOf sort.Constraint b) s₁ s₂ → Describes (shown patternEdge (patternEdgeOf b)) s s₂
+  pub pattern-edge-put : {f : PatternFields} → FieldsOf b f → Describes (put (f .dest) (number (f .tag))) s s₁
+      → Describes (rowOf sort.Constraint (part b (f .rest) (length b))) s₁ s₂ → Describes (shown patternEdge (patternEdgeOf b)) s s₂
   unfolding shown patternEdgeOf
-  pattern-edge-put e f d g = describes-then (any-second f (any-first e d)) (row-puts constraints-are b g .described)
+  pattern-edge-put {f} F d g =
+      let from : part b (f .rest) (length b) ≡ drop (f .rest) b =
+      take-all (length b - f .rest) (drop (f .rest) b) (simp length-drop (omega arith)) in
+      rw (← F .destination, ← F .tag-is, ← F .constraints, ← from) (describes-then d (row-puts constraints-are _ g .described))
 
   module _ {s₃ : State} where
     pub model-put : {n c : ℕ} → n ≡ theInteger type.NodeId b → c ≡ theInteger type.NamedPatternCnt b → Describes (put n (number c)) s s₁

@@ -1,7 +1,7 @@
 -- Parts that are put one behind the other. Assumes nothing.
 use mathlib.Core.Path.{_≡_, refl, sym, ap, subst, _∙_}
 use mathlib.Core.Bool.{Bool, true, false}
-use mathlib.Core.List.{List, [], _∷_, _++_, append-assoc, append-nil}
+use mathlib.Core.List.{List, [], _++_, append-assoc, append-nil}
 use Prim.Native.Nat.{ℕ, _+_, _-_, _≤_, _<_}
 use native.Mathlib.Numerals.{add-one}
 use native.Mathlib.Omega.{arith}
@@ -168,32 +168,3 @@ module _ {s : List ℕ} {at : ℕ} {before : List ℕ} {i : ℕ} {now : List ℕ
           back = rw (c .is, ← e, drop-paste before at s i (omega arith) g);
         },
       )
-
--- ---- a number that is not put may be any
-
-module _ {l : Lists} {n m : ℕ} {s s′ : State} (e : s .room .numbers ≤ length (s .numbers) → n ≡ m) where
-  pub any-first : Describes (put n l) s s′ → Describes (put m l) s s′
-  unfolding roomAfter
-  any-first d =
-      record {
-        room-is = d .room-is;
-        numbers-are = record {
-          kept = d .numbers-are .kept;
-          put = λ f h. subst (λ (x : ℕ). Put (length (s .numbers) - s .room .numbers) (x ∷ l .numbers) (s .numbers) (s′ .numbers)) (e h)
-              (d .numbers-are .put f h);
-        };
-        texts-are = d .texts-are;
-      }
-
-  pub any-second : {i : ℕ} → Describes (put i (put n l)) s s′ → Describes (put i (put m l)) s s′
-  unfolding roomAfter
-  any-second {i} d =
-      record {
-        room-is = d .room-is;
-        numbers-are = record {
-          kept = d .numbers-are .kept;
-          put = λ f h. subst (λ (x : ℕ). Put (length (s .numbers) - s .room .numbers) (i ∷ x ∷ l .numbers) (s .numbers) (s′ .numbers)) (e h)
-              (d .numbers-are .put f h);
-        };
-        texts-are = d .texts-are;
-      }

@@ -1,9 +1,8 @@
 // The parts of a description that hold no row of others.
 ghost use mathlib.Core.Path.{_≡_};
 ghost use mathlib.Core.List.{List};
-ghost use Prim.Native.Nat.{ℕ, _≤_};
+ghost use Prim.Native.Nat.{ℕ};
 ghost use lib.ListN.{length};
-ghost use Rattle.tlv.specs.Fields.{theInteger};
 ghost use Rattle.lvs_spec.specs.Types as type;
 ghost use Rattle.lvs_spec.specs.Model.{componentOf, argumentOf, valueEdgeOf, symbolOf};
 ghost use Rattle.lvs_description.specs.Format.{put, component};
@@ -44,17 +43,6 @@ pub(crate) fn put_own(node: &[u8], parents: usize, numbers: &mut [u64], room: Ro
     put_pair(1, tlv::number_in(node, PARENT), numbers, rest)
 }
 
-// The integer in the first element of type `typ` in `b`, where it is to be put. Where `numbers` is shorter than what may be put, nothing is, and any
-// number does.
-pub(crate) fn number_put(b: &[u8], typ: u32, numbers: &[u64], room: Room) -> u64
-    ensures { λ r. ⌜ (room .numbers ≤ length (now (numbers .entry)) → r ≡ theInteger typ (now (b .entry))) ⌝ }
-{
-    if numbers.len() < room.numbers {
-        return 0;
-    }
-    tlv::number_in(b, typ)
-}
-
 pub(crate) fn put_value_edge(b: &[u8], numbers: &mut [u64], texts: &mut [u8], room: Room) -> Room
     ensures { λ r.
         ⌜
@@ -62,11 +50,8 @@ pub(crate) fn put_value_edge(b: &[u8], numbers: &mut [u64], texts: &mut [u8], ro
         (state room (now (numbers .entry)) (now (texts .entry))) (state r (now (numbers .exit)) (now (texts .exit)))
         ⌝ }
 {
-    let destination = number_put(b, NODE_ID, numbers, room);
-    let part = tlv::inside_of(b, VALUE);
-    let start = part.start;
-    let end = part.end;
-    put_component(destination, &b[start..end], numbers, texts, room)
+    let destination = lvs_edges::destination(b);
+    put_component(destination, lvs_edges::value_of(b), numbers, texts, room)
 }
 
 pub(crate) fn put_symbol(b: &[u8], numbers: &mut [u64], texts: &mut [u8], room: Room) -> Room

@@ -14,7 +14,6 @@ use crate::lists::put_number;
 use crate::lists::put_numbered;
 use crate::lists::put_pair;
 use crate::lists::put_text;
-use crate::parts::number_put;
 use crate::parts::put_argument;
 use crate::parts::put_component;
 use crate::parts::put_own;
@@ -25,7 +24,6 @@ use lvs_spec::types::CONSTRAINT_OPTION;
 use lvs_spec::types::FN_ID;
 use lvs_spec::types::IDENTIFIER;
 use lvs_spec::types::NODE;
-use lvs_spec::types::NODE_ID;
 use lvs_spec::types::PARENT;
 use lvs_spec::types::PATTERN_EDGE;
 use lvs_spec::types::SIGN_CONSTRAINT;
@@ -145,6 +143,7 @@ fn put_node(b: &[u8], numbers: &mut [u64], texts: &mut [u8], room: Room) -> Room
     put_counted(b, Sort::Signer, count.signers, numbers, texts, patterns)
 }
 
+// Its Constraints are looked for behind the fields that are read already.
 fn put_pattern_edge(b: &[u8], numbers: &mut [u64], texts: &mut [u8], room: Room) -> Room
     ensures { λ r.
         ⌜
@@ -152,10 +151,10 @@ fn put_pattern_edge(b: &[u8], numbers: &mut [u64], texts: &mut [u8], room: Room)
         (state room (now (numbers .entry)) (now (texts .entry))) (state r (now (numbers .exit)) (now (texts .exit)))
         ⌝ }
 {
-    let destination = number_put(b, NODE_ID, numbers, room);
-    let tag = number_put(b, TAG, numbers, room);
-    let rest = put_pair(destination, tag, numbers, room);
-    put_row(b, Sort::Constraint, numbers, texts, rest)
+    let fields = lvs_edges::pattern_fields(b);
+    let from = fields.rest;
+    let rest = put_pair(fields.dest, fields.tag, numbers, room);
+    put_row(&b[from..], Sort::Constraint, numbers, texts, rest)
 }
 
 // As a term: 2 and the UserFnCall.

@@ -26,22 +26,26 @@ pub record Stands (packet key : List ℕ) (at : ℕ) (c : List ℕ) : Type 0 whe
   pub short : length c < 65536
   pub some : 0 < length c
 
--- a NodeId and a Tag of one byte each, and nothing before or between them
-pub record PlainPattern (s : List ℕ) : Type 0 where
-  pub long : 6 ≤ length s
+-- an edge that begins with a NodeId of one byte
+pub record PlainNode (s : List ℕ) : Type 0 where
+  pub long : 3 ≤ length s
   pub node : getD s 0 0 ≡ type.NodeId
   pub node-size : getD s 1 0 ≡ 1
-  pub tag : getD s 3 0 ≡ type.Tag
-  pub tag-size : getD s 4 0 ≡ 1
 
--- a NodeId of one byte and a Value that ends the edge, its length of one byte too
+-- such a NodeId, and a Value that ends the edge, its length of one byte too
 pub record PlainValue (s : List ℕ) : Type 0 where
+  pub begins : PlainNode s
   pub long : 5 ≤ length s
   pub short : length s ≤ 257
-  pub node : getD s 0 0 ≡ type.NodeId
-  pub node-size : getD s 1 0 ≡ 1
   pub value : getD s 3 0 ≡ type.Value
   pub value-size : getD s 4 0 ≡ length s - 5
+
+-- begins with such a NodeId and a Tag of one byte
+pub record PlainPattern (s : List ℕ) : Type 0 where
+  pub begins : PlainNode s
+  pub long : 6 ≤ length s
+  pub tag : getD s 3 0 ≡ type.Tag
+  pub tag-size : getD s 4 0 ≡ 1
 
 -- the fields of a PatternEdge, and a place in it from which on all its Constraints are
 pub record FieldsOf (s : List ℕ) (f : PatternFields) : Type 0 where

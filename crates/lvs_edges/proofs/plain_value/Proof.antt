@@ -1,19 +1,16 @@
 -- `lvs_edges::plain_value` meets its contract. Assumes nothing.
 use borrow.Author.Needs.{needs}
 use native.Mathlib.Omega.{arith}
-use borrow.Author.Tests.{eqb-true}
+use borrow.Author.Tests.{eqb-true, not-false}
 use Rattle.lvs_edges.proofs.Plain.{never}
 use Rattle.lvs_edges.proofs.plain_value.Statement.{statement}
 use Rattle.lvs_edges.proofs.plain_value.Tie as tie
 
-cast-if3 : tie.Need-cast-if3
-cast-if3 c = omega (arith, c .shared-slice-known .given 0)
-
-cast-if5 : tie.Need-cast-if5
-cast-if5 c = omega (arith, c .shared-slice-known3 .given 3)
+cast-if4 : tie.Need-cast-if4
+cast-if4 c = omega (arith, c .shared-slice-known2 .given 3)
 
 cast-result : tie.Need-cast-result
-cast-result c = omega (arith, c .shared-slice-known4 .given 4)
+cast-result c = omega (arith, c .shared-slice-known3 .given 4)
 
 returns : tie.Need-returns
 returns c = never
@@ -28,20 +25,15 @@ returns-4 : tie.Need-returns-4
 returns-4 c = never
 
 returns-5 : tie.Need-returns-5
-returns-5 c = never
-
-returns-6 : tie.Need-returns-6
-returns-6 c =
-    let five = c .before in
-    let four = five .before .before in
+returns-5 c =
+    let four = c .before in
     let three = four .before .before in
     let two = three .before .before in
     λ e. record {
+      begins = three .before .plain-node .ensures (not-false _ (three .if3 .left));
       long = two .before .if1 .left;
       short = two .if2 .left;
-      node = three .if3 .left;
-      node-size = four .if4 .left;
-      value = five .if5 .left;
+      value = four .if4 .left;
       value-size = eqb-true _ _ e;
     }
 
@@ -51,15 +43,12 @@ plain-value-spec =
     (tie.spec
     returns
     returns-2
-    (λ c. search needs)
-    cast-if3
+    (λ c κs. search needs)
     returns-3
     (λ c. search needs)
+    cast-if4
     returns-4
-    (λ c. search needs)
-    cast-if5
-    returns-5
     (λ c. search needs)
     cast-result
     (λ c. search needs)
-    returns-6)
+    returns-5)

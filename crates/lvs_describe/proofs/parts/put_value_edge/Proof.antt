@@ -7,8 +7,8 @@ use Rattle.lvs_describe.proofs.parts.put_value_edge.Tie as tie
 returns : tie.Need-returns
 returns c =
     let component = c .before .before .before .before in
-    let inside = component .before .before .before .before in
-    value-edge-put _ (inside .before .number-put .ensures) (inside .inside-of .ensures) (component .put-component .ensures)
+    let value = component .before .before .before in
+    value-edge-put _ (value .before .destination .ensures) (value .value-of .ensures) (component .put-component .ensures)
 
 pub put-value-edge-spec : {M : Type 1} → statement M
 put-value-edge-spec =
@@ -16,9 +16,6 @@ put-value-edge-spec =
     (tie.spec
     (λ c κs. search needs)
     (λ c κs. search needs)
-    (λ c. search needs)
-    (λ c. search needs)
-    (λ c. search needs)
     (λ c κs. search needs)
     (λ c. search needs)
     (λ c. search needs)

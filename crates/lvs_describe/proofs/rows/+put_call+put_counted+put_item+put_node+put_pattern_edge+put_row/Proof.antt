@@ -36,7 +36,6 @@ use Rattle.lvs_describe.proofs.lists.put_number.Reads as put-number-rea
 use Rattle.lvs_describe.proofs.lists.put_numbered.Reads as put-numbered-reads
 use Rattle.lvs_describe.proofs.lists.put_pair.Reads as put-pair-reads
 use Rattle.lvs_describe.proofs.lists.put_text.Reads as put-text-reads
-use Rattle.lvs_describe.proofs.parts.number_put.Reads as number-put-reads
 use Rattle.lvs_describe.proofs.parts.put_argument.Reads as put-argument-reads
 use Rattle.lvs_describe.proofs.parts.put_component.Reads as put-component-reads
 use Rattle.lvs_describe.proofs.parts.put_own.Reads as put-own-reads
@@ -48,6 +47,7 @@ use Rattle.lvs_describe.proofs.rows.is_of.Reads as is-of-reads
 use Rattle.tlv.proofs.Place.element.Reads as element-reads
 use Rattle.tlv.proofs.inside_of.Reads as inside-of-reads
 use Rattle.tlv.proofs.number_of.Reads as number-of-reads
+use Rattle.lvs_edges.proofs.pattern_fields.Reads as pattern-fields-reads
 use Rattle.lvs_describe.proofs.rows.+put_call+put_counted+put_item+put_node+put_pattern_edge+put_row.{statement}
 use Rattle.lvs_describe.proofs.rows.+put_call+put_counted+put_item+put_node+put_pattern_edge+put_row.Tie.{close}
 
@@ -336,8 +336,8 @@ put-node-same-length-2 t c = put-node-returns t c .texts-are .kept
 
 abbrev put-pattern-edge-calls : ℕ → edge-lts.Claims
 put-pattern-edge-calls t = (
-  number-put-reads.Asked,
-  number-put-reads.Learnt,
+  pattern-fields-reads.Asked,
+  pattern-fields-reads.Learnt,
   put-pair-reads.Asked,
   put-pair-reads.Learnt,
   put-row-below t,
@@ -348,19 +348,26 @@ abbrev put-pattern-edge-need : (edge-lts.Claims → In 3 edge-kinds.ps → Out 3
     → ℕ → Type 0
 put-pattern-edge-need N t = N (put-pattern-edge-calls t) (put-pattern-edge-at t) put-pattern-edge.Post
 
+-- where the fields were read
+abbrev fields : (t : ℕ) → put-pattern-edge-need edge-lts.After-slice-known3 t → put-pattern-edge-need edge-lts.After-pattern-fields t
+fields t c = c .before .before .before .before
+
+put-pattern-edge-sub-put-row : (t : ℕ) → put-pattern-edge-need edge-lts.Need-sub-put-row t
+put-pattern-edge-sub-put-row t c = fields t c .pattern-fields .ensures .within
+
+put-pattern-edge-part-put-row-start : (t : ℕ) → put-pattern-edge-need edge-lts.Need-part-put-row-start t
+put-pattern-edge-part-put-row-start t c = fields t c .pattern-fields .ensures .within
+
 put-pattern-edge-put-row-requires : (t : ℕ) → put-pattern-edge-need edge-lts.Need-put-row-requires t
 put-pattern-edge-put-row-requires t c κs =
-    let pair = c .before .before .before .before in
-    let destination = pair .before .before .before .before in
-    (omega (arith, destination .before .before .before .before .before .pre .0), tt)
+    let edge = fields t (c .before .before .before) .before .before .before .before in
+    (simp (length-take, length-drop) (omega (arith, edge .pre .0)), tt)
 
 put-pattern-edge-returns : (t : ℕ) → put-pattern-edge-need edge-lts.Need-returns t
 put-pattern-edge-returns t c =
     let constraints = c .before .before .before .before in
-    let pair = constraints .before .before .before .before .before in
-    let tag = pair .before .before in
-    pattern-edge-put _ (tag .before .before .number-put .ensures) (tag .number-put2 .ensures) (pair .put-pair .ensures _)
-    (constraints .put-row .ensures)
+    let known = constraints .before .before .before .before in
+    pattern-edge-put _ (fields t known .pattern-fields .ensures) (known .before .before .put-pair .ensures _) (constraints .put-row .ensures)
 
 -- ---- put_counted
 
@@ -600,7 +607,9 @@ pub +put-call+put-counted+put-item+put-node+put-pattern-edge+put-row-spec : {M :
     put-pattern-edge.Post
     (λ c κs. search needs)
     (λ c κs. search needs)
-    (λ c κs. search needs)
+    (put-pattern-edge-sub-put-row t)
+    (put-pattern-edge-part-put-row-start t)
+    (λ c. search needs)
     (put-pattern-edge-put-row-requires t)
     (λ c. search needs)
     (λ c. search needs)
