@@ -820,7 +820,7 @@ def programmed(file, text):
     file.chmod(0o755)
 
 
-BUILDING = "lvs: building the checker with `rt check lvs_cases`; the first time this proves ten crates, in about four minutes\n"
+BUILDING = "lvs: building the checker with `rt check lvs_cases`; the first time this proves the crates that it is made of, in about four minutes\n"
 
 
 def check_builds(folder):

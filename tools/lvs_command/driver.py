@@ -125,7 +125,7 @@ def build():
     rt = shutil.which("rt") or shutil.which("rt", path=TOOLCHAIN)
     if rt is None:
         raise Failure("the checker has to be built with `rt` of the Rattle toolchain, which is not in PATH")
-    say("building the checker with `rt check lvs_cases`; the first time this proves ten crates, in about four minutes")
+    say("building the checker with `rt check lvs_cases`; the first time this proves the crates that it is made of, in about four minutes")
     began = time.time()
     try:
         status, lines = run_rt([rt, "check", "lvs_cases"])
