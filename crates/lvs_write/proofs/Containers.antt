@@ -5,7 +5,11 @@ use mathlib.Core.Option.{Option, none, some}
 use mathlib.Core.List.{List, []}
 use Prim.Native.Nat.{ℕ, zero, suc}
 use Rattle.tlv.specs.Lists.{bind}
+use lib.Dec.{lit<}
+use lib.ListN.{length}
+use Rattle.tlv.specs.Number.{numberBytes}
 use Rattle.tlv.specs.Element.{encode}
+use Rattle.tlv_writer.proofs.Numbers.{short-size}
 use Rattle.lvs_spec.specs.Types as type
 use Rattle.lvs_spec.specs.Leaves.{marked, identifier}
 use Rattle.lvs_spec.specs.Model.{Argument, Term}
@@ -344,3 +348,16 @@ nested-written c l = refl
 pub nested-as : {t : ℕ} (c : Container) → t ≡ typeOf c → Same (λ l. wrapped t (insideFrom c l)) (nestedFrom c)
 unfolding nestedFrom
 nested-as c e l = ap (λ (k : ℕ). wrapped k (insideFrom c l)) e
+
+-- a container's type takes one byte
+pub type-short : {t : ℕ} (c : Container) → t ≡ typeOf c → length (numberBytes t) ≡ 1
+type-short c e = rw e (go c)
+  where
+    go : (k : Container) → length (numberBytes (typeOf k)) ≡ 1
+    go Container.Node = short-size _ (lit< tt)
+    go Container.Symbol = short-size _ (lit< tt)
+    go Container.PatternEdge = short-size _ (lit< tt)
+    go Container.Constraint = short-size _ (lit< tt)
+    go Container.ConstraintOption = short-size _ (lit< tt)
+    go Container.Call = short-size _ (lit< tt)
+    go Container.Argument = short-size _ (lit< tt)

@@ -1,22 +1,24 @@
 -- An element that holds others, written into its place behind its header. Assumes nothing.
 use mathlib.Core.Path.{_≡_, refl, sym, ap, subst, _∙_}
 use mathlib.Core.Bool.{Bool, true, false}
-use mathlib.Core.List.{List, [], _∷_, _++_}
+use mathlib.Core.List.{List, _++_}
 use mathlib.Core.Option.{none, some}
-use Prim.Native.Nat.{ℕ, _+_, _-_, _≤_, _<_}
+use Prim.Native.Nat.{ℕ, _+_, _-_, _≤_, _<_, min}
 use native.Mathlib.Omega.{arith}
 use borrow.Author.Tests.{leb-true, leb-false}
-use borrow.Rule.Slice.PartMut.{putMid}
+use borrow.Rule.Slice.PartMut.{putMid, same-len-mid, mid-len}
 use lib.Dec.{leb}
-use lib.ListN.{length, take, drop, length-drop}
-use lib.Seq.{length-take-le, take-at, drop-at, drop-drop}
+use lib.ListN.{length, take, drop}
 use Rattle.tlv_writer.specs.Stored.{Stored}
-use Rattle.tlv_writer.proofs.Stores.{stored-length}
+use Rattle.tlv.specs.Number.{numberBytes}
+use Rattle.tlv_writer.proofs.Numbers.{short-size, long-size}
+use Rattle.tlv_writer.proofs.Stores.{stored-front, stored-length, stored-inside, stored-over}
 use Rattle.lvs_description.specs.Format.{Lists}
 use Rattle.lvs_write.specs.declared.Cursor.{Cursor}
 use Rattle.lvs_write.specs.Spelled.{Bytes, wrapped}
 use Rattle.lvs_write.specs.Steps.{el, capped, elementSize, headerBytes, listsAt, stateOf, movedBy, Writes}
-use Rattle.lvs_write.proofs.Sizes.{capped-low, capped-is, capped-add, capped-capped, capped-element, element-length, element-room}
+use Rattle.lvs_write.proofs.Sizes.{capped-low, capped-is, capped-add, capped-capped, capped-element}
+use Rattle.lvs_write.proofs.Sizes.{header-then, header-length, element-length, element-room}
 use Rattle.lvs_write.proofs.Places.{puts-lent}
 use Rattle.lvs_write.proofs.Moves.{apart, state-ok, state-not, moved-none, moved-some, stopped-wrote, one-wrote}
 
@@ -32,6 +34,20 @@ record Inside (g : Lists → Bytes) (ns ts : List ℕ) (s m : Cursor) : Type 0 w
   ok : s .ok ≡ true
   size-is : capped (m .at) ≡ capped (length bytes)
   rest-is : listsAt ns ts (m .number) (m .text) ≡ rest
+
+-- where the inside is written first, in a list of `len` bytes: behind a header of two bytes, if there is room, and 252 bytes at most
+pub record Early (at len early until : ℕ) : Type 0 where
+  pub order : early ≤ until
+  pub within : until ≤ len
+  pub short : until ≤ early + 252
+  pub place : at + 2 ≤ 32768 → at + 2 ≤ len → early ≡ at + 2
+  pub room : (k : ℕ) → k ≤ 252 → early + k ≤ len → early + k ≤ until
+
+pub early-places : (at len : ℕ) {a early until : ℕ} → a ≡ capped (at + 2) → early ≡ min a len → until ≡ min (early + 252) len
+    → Early at len early until
+unfolding capped
+early-places at len o p q =
+    record { order = omega arith; within = omega arith; short = omega arith; place = λ h g. omega arith; room = λ k h g. omega arith }
 
 moved-nothing : (g : Lists → Bytes) → movedBy g none ≡ none
 unfolding movedBy
@@ -112,6 +128,11 @@ module _ {g : Lists → Bytes} {ns ts e e′ : List ℕ} (s : Cursor) {m : Curso
         let low : capped (s .at) ≡ s .at = capped-low (s .at) (omega arith) in
         subst (λ (x : ℕ). Stored b now x (el t bs)) (sym low) (st (omega arith) (omega arith)))
 
+    -- the inside was put where it was lent room for all of it
+    filled : {c c′ : List ℕ} {w : Cursor} → Writes g ns ts c c′ (front s) w → length bs ≤ 32768 → length bs ≤ length c → Stored c c′ 0 bs
+    filled W h room =
+        W .put 0 _ bs (I .rest) (begin (I .ok) ∙ ap (λ (j : ℕ). some (j, L)) (capped-is 0 (omega arith))) (I .is) (omega arith) (omega arith)
+
     -- an element that is no longer than a model may be has an inside of n bytes
     exact : s .at + length (el t bs) ≤ 32768 → (n ≡ length bs) × (size ≡ length (el t bs))
     exact h =
@@ -120,40 +141,64 @@ module _ {g : Lists → Bytes} {ns ts e e′ : List ℕ} (s : Cursor) {m : Curso
         let n-exact : n ≡ length bs = n-is ∙ I .size-is ∙ capped-is (length bs) (omega arith) in
         (n-exact, size-is ∙ ap (elementSize t) n-exact ∙ sym long)
 
-    pub nested-no-room : {b : List ℕ} → leb (s .at + size) (length b) ≡ false → Writes (λ l. wrapped t (g l)) ns ts b b s r
-    nested-no-room {b} e =
-        let far : length b < s .at + size = leb-false _ _ e in
-        written (λ h room. absurd (omega (arith, exact h .1)))
+    -- the inside was first written from `early` on, into what was lent up to `until`
+    module _ (b : List ℕ) {early until : ℕ} (E : Early (s .at) (length b) early until) (part-is : e ≡ take (until - early) (drop early b))
+        (same : length e′ ≡ length e) where
+      abbrev lent : List ℕ
+      lent = putMid early (until - early) b e′
 
-    pub nested-wrote : (b b₁ : List ℕ) {y : List ℕ} {w : Cursor} (start end : ℕ) → leb (s .at + size) (length b) ≡ true
-        → start ≡ s .at + length (headerBytes t n) → Stored b b₁ (s .at) (headerBytes t n) → end ≡ start + n
-        → Writes g ns ts (take (end - start) (drop start b₁)) y (front s) w → Writes (λ l. wrapped t (g l)) ns ts b (putMid start (end - start) b₁ y) s r
-    nested-wrote b b₁ {y} {w} start end e start-is H end-is W =
-        written
-        (λ h room.
-        let x = exact h in
-        let fits : s .at + size ≤ length b = leb-true _ _ e in
-        let long : elementSize t n ≡ length (headerBytes t n) + n = element-room t n in
-        let b-long : length b₁ ≡ length b = stored-length H in
-        let part : length (take (end - start) (drop start b₁)) ≡ end - start =
-        length-take-le (end - start) (drop start b₁) (simp length-drop (omega arith)) in
-        let back : Stored (take (end - start) (drop start b₁)) y 0 bs =
-        W .put 0 _ bs (I .rest) (begin (I .ok) ∙ ap (λ (j : ℕ). some (j, L)) (capped-is 0 (omega arith))) (I .is)
-        (omega (arith, x .0))
-        (omega (arith, x .0)) in
-        puts-lent t (s .at) n size-is (x .0) (start-is, H) end-is (omega arith) back .put fits)
+      lent-long : length lent ≡ length b
+      lent-long = same-len-mid early (until - early) b e′ (same ∙ ap length part-is)
 
--- nothing was written into a part of no bytes
-pub untouched : (b y : List ℕ) → length y ≡ 0 → putMid 0 0 b y ≡ b
-untouched b y e = (λ i. take-at [] b 0 refl i ++ (nil y e i ++ drop-drop 0 0 b i)) ∙ drop-at [] b 0 refl
-  where
-    nil : (l : List ℕ) → length l ≡ 0 → l ≡ []
-    nil [] p = refl
-    nil (x ∷ l) p = absurd (omega arith)
+      part : length e ≡ until - early
+      part = ap length part-is ∙ mid-len early until b (E .within)
 
--- the list as it was before
-pub from-start : {f : Lists → Bytes} {ns ts b b₀ now : List ℕ} {s r : Cursor} → b ≡ b₀ → Writes f ns ts b now s r → Writes f ns ts b₀ now s r
-from-start {f} {ns} {ts} {b} {b₀} {now} {s} {r} e W = subst (λ (x : List ℕ). Writes f ns ts x now s r) e W
+      -- if there is no room, nothing has to be written;
+      pub nested-no-room : leb (s .at + size) (length lent) ≡ false → Writes (λ l. wrapped t (g l)) ns ts b lent s r
+      nested-no-room far =
+          let beyond : length lent < s .at + size = leb-false _ _ far in
+          written (λ h room. absurd (omega (arith, exact h .1, lent-long)))
+
+      -- if it has no more bytes than a header of two bytes can say, that is its place, and the header is put before it;
+      pub nested-early : {b₂ : List ℕ} {start : ℕ} → leb (s .at + size) (length lent) ≡ true → length (numberBytes t) ≡ 1 → n ≤ 252
+          → (start ≡ s .at + length (headerBytes t n)) × Stored lent b₂ (s .at) (headerBytes t n) → Writes (λ l. wrapped t (g l)) ns ts b b₂ s r
+      nested-early {b₂} fits type-short short H =
+          written
+          (λ h room.
+          let x = exact h in
+          let there : s .at + size ≤ length b = omega (arith, leb-true (s .at + size) (length lent) fits, lent-long) in
+          let two : length (headerBytes t n) ≡ 2 = header-length t n ∙ (λ i. type-short i + short-size n (omega arith) i) in
+          let long : elementSize t n ≡ length (headerBytes t n) + n = element-room t n in
+          let place : early ≡ s .at + 2 = E .place (omega (arith, x .1)) (omega arith) in
+          let enough : early + n ≤ until = E .room n short (omega arith) in
+          let back : Stored e e′ 0 bs = filled M (omega (arith, x .0)) (omega (arith, x .0, part)) in
+          let inside : Stored b lent early bs =
+          stored-inside b early (until - early) (omega (arith, E .order, E .within)) (omega (arith, x .0))
+          (subst (λ (z : List ℕ). Stored z e′ 0 bs) part-is back) in
+          let head : headerBytes t n ++ bs ≡ el t bs = ap (λ (j : ℕ). headerBytes t j ++ bs) (x .0) ∙ header-then t bs in
+          subst (Stored b b₂ (s .at)) head (stored-front inside (H .1) (omega arith)))
+
+      -- if it has more, it is written again behind the longer header, over all that was put too early
+      pub nested-again : {b₂ y : List ℕ} {start end : ℕ} {w : Cursor} → leb (s .at + size) (length lent) ≡ true → 252 < n
+          → (start ≡ s .at + length (headerBytes t n)) × Stored lent b₂ (s .at) (headerBytes t n) → end ≡ start + n
+          → Writes g ns ts (take (end - start) (drop start b₂)) y (front s) w
+          → Writes (λ l. wrapped t (g l)) ns ts b (putMid start (end - start) b₂ y) s r
+      nested-again {b₂} {y} {start} {end} fits long H end-is W =
+          written
+          (λ h room.
+          let x = exact h in
+          let there : s .at + size ≤ length b = omega (arith, leb-true (s .at + size) (length lent) fits, lent-long) in
+          let header : elementSize t n ≡ length (headerBytes t n) + n = element-room t n in
+          let one : length (headerBytes t n) ≡ length (numberBytes t) + length (numberBytes n) = header-length t n in
+          let b-long : length b₂ ≡ length lent = stored-length (H .1) in
+          let ends : end ≤ length b₂ = omega (arith, H .0, there, lent-long) in
+          let back : Stored (take (end - start) (drop start b₂)) y 0 bs =
+          filled W (omega (arith, x .0)) (omega (arith, x .0, mid-len start end b₂ ends)) in
+          let over = puts-lent t (s .at) n size-is (x .0) H end-is ends back .put (omega (arith, there, lent-long)) in
+          let place : early ≡ s .at + 2 = E .place (omega (arith, x .1)) (omega arith) in
+          stored-over b e′ early until (omega arith) (E .order) (omega (arith, x .1, long-size n long, E .short)) (omega (arith, x .1))
+          (same ∙ part)
+          over)
 
 -- the place behind an element, whose inside ends at m
 abbrev pub placed : Cursor → ℕ → Cursor

@@ -83,7 +83,7 @@ pub(crate) fn take_text(numbers: &[u64], texts: &[u8], s: Cursor) -> Text
     }
 }
 
-fn least(a: usize, b: usize) -> usize
+pub(crate) fn least(a: usize, b: usize) -> usize
     ensures { λ r. ⌜ r ≡ min a b ⌝ }
 {
     if a < b { a } else { b }

@@ -1,5 +1,6 @@
 // The containers of a description and what they hold. Each function takes the place s where its part begins, and answers the place behind it.
 ghost use mathlib.Core.Path.{_≡_};
+ghost use mathlib.Core.Bool.{true};
 ghost use Rattle.lvs_spec.specs.Types as type;
 ghost use Rattle.lvs_description.specs.Format.{integer, maybe};
 ghost use Rattle.lvs_description.specs.Description.{node, symbol, patternEdge, call, term, argument};
@@ -18,6 +19,7 @@ use crate::leaves::write_integer;
 use crate::leaves::write_pair;
 use crate::leaves::write_text;
 use crate::leaves::write_value_edge;
+use crate::lists::least;
 use crate::lists::stopped;
 use crate::lists::take_number;
 use lvs_spec::types::CONSTRAINT;
@@ -33,6 +35,9 @@ use lvs_spec::types::TAG;
 use lvs_spec::types::TAG_SYMBOL;
 use lvs_spec::types::USER_FN_ARG;
 use lvs_spec::types::USER_FN_CALL;
+
+// The most bytes that a length of one byte can say.
+const SHORT: usize = 252;
 
 // How many there are, and each.
 pub(crate) fn write_many(
@@ -73,8 +78,9 @@ fn write_part(part: Part, numbers: &[u64], texts: &[u8], out: &mut [u8], s: Curs
     }
 }
 
-// A container is gone through once to learn how many bytes it holds, and, where there is room for it, once more to write them into their
-// place behind its header.
+// The inside of a container is written into its place behind the header, and where that is depends on how many bytes there are. First it is lent
+// the place behind a header of two bytes, with room for as many as such a header can say: nearly always that is its place. If there are more,
+// it is written again behind the longer header, over all that was put too early.
 fn write_nested(
     container: Container,
     numbers: &[u64],
@@ -91,27 +97,39 @@ fn write_nested(
         text: s.text,
         at: 0,
     };
-    let inside = write_inside(container, numbers, texts, &mut out[..0], front);
+    let at = s.at;
+    let early = least(add(at, 2), out.len());
+    let until = least(early + SHORT, out.len());
+    let inside = write_inside(container, numbers, texts, &mut out[early..until], front);
     if !inside.ok {
         return inside;
     }
     let typ = type_of(container) as u64;
     let n = cap(inside.at);
     let size = element_size(typ, n);
-    let at = s.at;
-    let next = Cursor {
-        ok: true,
-        number: inside.number,
-        text: inside.text,
-        at: add(at, size),
-    };
+    let next = placed(inside, add(at, size));
     if !has_room(out.len(), at, size) {
         return next;
     }
     let start = put_header(out, at, typ, n as u64);
+    if n <= SHORT {
+        return next;
+    }
     let end = start + n;
     write_inside(container, numbers, texts, &mut out[start..end], front);
     next
+}
+
+// The place behind what ends at `inside`.
+fn placed(inside: Cursor, at: usize) -> Cursor
+    ensures { λ r. ⌜ r ≡ record { ok = true; number = inside .number; text = inside .text; at = at } ⌝ }
+{
+    Cursor {
+        ok: true,
+        number: inside.number,
+        text: inside.text,
+        at,
+    }
 }
 
 fn type_of(container: Container) -> u32

@@ -8,7 +8,7 @@ use Rattle.lvs_write.specs.Spelled.{partFrom}
 use Rattle.lvs_write.proofs.Heights.{height, weight}
 use Rattle.lvs_write.proofs.Moves.{wrote-as, then-wrote}
 use Rattle.lvs_write.proofs.Many.{Running, running-first, running-next, running-last, running-stopped, counted-wrote}
-use Rattle.lvs_write.proofs.Nested.{nested-stopped, nested-no-room, nested-wrote, untouched, from-start, placed}
+use Rattle.lvs_write.proofs.Nested.{early-places, nested-stopped, nested-no-room, nested-early, nested-again, placed}
 use Rattle.lvs_write.proofs.Places.{header-fits, inside-fits}
 use Rattle.lvs_write.proofs.Sizes.{capped-most}
 use Rattle.lvs_write.proofs.Containers as parts
@@ -41,8 +41,10 @@ use Rattle.lvs_write.proofs.leaves.write_integer.Reads as write-integer
 use Rattle.lvs_write.proofs.leaves.write_pair.Reads as write-pair-reads
 use Rattle.lvs_write.proofs.leaves.write_text.Reads as write-text-reads
 use Rattle.lvs_write.proofs.leaves.write_value_edge.Reads as write-value-edge-reads
+use Rattle.lvs_write.proofs.lists.least.Reads as least-reads
 use Rattle.lvs_write.proofs.lists.stopped.Reads as stopped-reads
 use Rattle.lvs_write.proofs.lists.take_number.Reads as take-number-reads
+use Rattle.lvs_write.proofs.parts.placed.Reads as placed-reads
 use Rattle.lvs_write.proofs.parts.type_of.Reads as type-of-reads
 use Rattle.lvs_write.proofs.parts.write_argument.Reads as write-argument-reads
 use Rattle.lvs_write.proofs.parts.write_parent.Reads as write-parent-reads
@@ -200,6 +202,10 @@ write-many-calls t = (
 
 abbrev write-nested-calls : ℕ → cycle.Lts-write_nested.Claims
 write-nested-calls t = (
+  add-reads.Asked,
+  add-reads.Learnt,
+  least-reads.Asked,
+  least-reads.Learnt,
   write-inside-below t,
   write-inside.Post,
   type-of-reads.Asked,
@@ -208,8 +214,8 @@ write-nested-calls t = (
   cap-reads.Learnt,
   element-size-reads.Asked,
   element-size-reads.Learnt,
-  add-reads.Asked,
-  add-reads.Learnt,
+  placed-reads.Asked,
+  placed-reads.Learnt,
   has-room-reads.Asked,
   has-room-reads.Learnt,
   put-header-reads.Asked,
@@ -264,7 +270,8 @@ write-term-calls t = (
 
 write-call-write-many-requires : (t : ℕ) → cycle.Lts-write_call.Need-write-many-requires (write-call-calls t) (write-call-at t) write-call.Post
 write-call-write-many-requires t c κs =
-    let at-pre = c .before .before .before .before .before .before .before .before in
+    let at-before = c .before .before .before .before .before .before .before in
+    let at-pre = at-before .before in
     (omega (arith, at-pre .pre .0), tt)
 
 write-call-returns : (t : ℕ) → cycle.Lts-write_call.Need-returns (write-call-calls t) (write-call-at t) write-call.Post
@@ -357,7 +364,8 @@ write-many-loop-holds t c = running-first _ _ _ _ _ _
 write-many-write-part-requires : (t : ℕ)
     → cycle.Lts-write_many.Need-write-part-requires (write-many-calls t) (write-many-at t) write-many.Post write-many-Inv-loop write-many-μ-loop
 write-many-write-part-requires t c κs =
-    let at-pre = c .before .before .before .before .before .before .before .before .before .before in
+    let at-before = c .before .before .before .before .before .before .before .before .before in
+    let at-pre = at-before .before in
     (omega (arith, at-pre .pre .0), tt)
 
 write-many-loop-again : (t : ℕ)
@@ -384,24 +392,28 @@ write-many-returns-2 t c =
 
 write-node-write-many-requires : (t : ℕ) → cycle.Lts-write_node.Need-write-many-requires (write-node-calls t) (write-node-at t) write-node.Post
 write-node-write-many-requires t c κs =
-    let at-pre = c .before .before .before .before .before .before .before .before .before .before .before .before in
+    let at-before = c .before .before .before .before .before .before .before .before .before .before .before in
+    let at-pre = at-before .before in
     (omega (arith, at-pre .pre .0), tt)
 
 write-node-write-many-requires-2 : (t : ℕ) → cycle.Lts-write_node.Need-write-many-requires-2 (write-node-calls t) (write-node-at t) write-node.Post
 write-node-write-many-requires-2 t c κs =
-    let far-12 = c .before .before .before .before .before .before .before .before .before .before .before .before in
+    let at-before = c .before .before .before .before .before .before .before .before .before .before .before in
+    let far-12 = at-before .before in
     let at-pre = far-12 .before .before .before .before in
     (omega (arith, at-pre .pre .0), tt)
 
 write-node-write-many-requires-3 : (t : ℕ) → cycle.Lts-write_node.Need-write-many-requires-3 (write-node-calls t) (write-node-at t) write-node.Post
 write-node-write-many-requires-3 t c κs =
-    let far-12 = c .before .before .before .before .before .before .before .before .before .before .before .before in
+    let at-before = c .before .before .before .before .before .before .before .before .before .before .before in
+    let far-12 = at-before .before in
     let at-pre = far-12 .before .before .before .before .before .before .before .before in
     (omega (arith, at-pre .pre .0), tt)
 
 write-node-write-many-requires-4 : (t : ℕ) → cycle.Lts-write_node.Need-write-many-requires-4 (write-node-calls t) (write-node-at t) write-node.Post
 write-node-write-many-requires-4 t c κs =
-    let far-12 = c .before .before .before .before .before .before .before .before .before .before .before .before in
+    let at-before = c .before .before .before .before .before .before .before .before .before .before .before in
+    let far-12 = at-before .before in
     let at-pre = far-12 .before .before .before .before .before .before .before .before .before .before .before .before in
     (omega (arith, at-pre .pre .0), tt)
 
@@ -474,7 +486,8 @@ write-part-returns-5 t c =
 write-pattern-edge-write-many-requires : (t : ℕ)
     → cycle.Lts-write_pattern_edge.Need-write-many-requires (write-pattern-edge-calls t) (write-pattern-edge-at t) write-pattern-edge.Post
 write-pattern-edge-write-many-requires t c κs =
-    let at-pre = c .before .before .before .before .before .before .before .before in
+    let at-before = c .before .before .before .before .before .before .before in
+    let at-pre = at-before .before in
     (omega (arith, at-pre .pre .0), tt)
 
 write-pattern-edge-returns : (t : ℕ)
@@ -486,7 +499,8 @@ write-pattern-edge-returns t c =
 
 write-term-write-nested-requires : (t : ℕ) → cycle.Lts-write_term.Need-write-nested-requires (write-term-calls t) (write-term-at t) write-term.Post
 write-term-write-nested-requires t c κs =
-    let at-pre = c .before .before .before .before .before .before .before in
+    let at-before = c .before .before .before .before .before .before in
+    let at-pre = at-before .before in
     (omega (arith, at-pre .pre .0), tt)
 
 write-term-returns : (t : ℕ) → cycle.Lts-write_term.Need-returns (write-term-calls t) (write-term-at t) write-term.Post
@@ -517,20 +531,30 @@ write-term-returns-4 t c =
     parts.term-other (at-take-number .take-number .ensures) (at-match .match .rest .0 .0 .1)
     (at-match .match .rest .0 .1) (at-match .match .rest .1) (c .stopped .ensures)
 
+write-nested-add-least : (t : ℕ)
+    → cycle.Lts-write_nested.Need-add-least (write-nested-calls t) (write-nested-at t) write-nested.Post
+write-nested-add-least t c = omega (arith, c .least .ensures)
+
+write-nested-sub-write-inside : (t : ℕ)
+    → cycle.Lts-write_nested.Need-sub-write-inside (write-nested-calls t) (write-nested-at t) write-nested.Post
+write-nested-sub-write-inside t c = omega (arith, c .before .least .ensures, c .least2 .ensures)
+
+write-nested-part-write-inside-start : (t : ℕ)
+    → cycle.Lts-write_nested.Need-part-write-inside-start (write-nested-calls t) (write-nested-at t) write-nested.Post
+write-nested-part-write-inside-start t c = omega (arith, c .before .least .ensures)
+
+write-nested-part-write-inside-end : (t : ℕ)
+    → cycle.Lts-write_nested.Need-part-write-inside-end (write-nested-calls t) (write-nested-at t) write-nested.Post
+write-nested-part-write-inside-end t c = omega (arith, c .least2 .ensures)
+
 write-nested-write-inside-requires : (t : ℕ)
     → cycle.Lts-write_nested.Need-write-inside-requires (write-nested-calls t) (write-nested-at t) write-nested.Post
 write-nested-write-inside-requires t c κs =
-    let at-pre = c .before .before .before .before in
+    let at-pre = c .before .before .before .before .before .before .before in
     (omega (arith, at-pre .pre .0), tt)
 
-write-nested-write-inside-requires-2 : (t : ℕ)
-    → cycle.Lts-write_nested.Need-write-inside-requires-2 (write-nested-calls t) (write-nested-at t) write-nested.Post
-write-nested-write-inside-requires-2 t c κs =
-    let far-12 = c .before .before .before .before .before .before .before .before .before .before .before .before in
-    let at-pre = far-12 .before .before .before .before .before .before .before .before in
-    (omega (arith, at-pre .pre .0), tt)
-
-write-nested-returns : (t : ℕ) → cycle.Lts-write_nested.Need-returns (write-nested-calls t) (write-nested-at t) write-nested.Post
+write-nested-returns : (t : ℕ)
+    → cycle.Lts-write_nested.Need-returns (write-nested-calls t) (write-nested-at t) write-nested.Post
 write-nested-returns t c =
     let at-write-inside = c .before .before .before .before in
     wrote-as (parts.nested-as _ refl) (nested-stopped _ (at-write-inside .write-inside .ensures) _ (not-true _ (c .if1 .taken)))
@@ -541,40 +565,76 @@ write-nested-element-size-requires t c κs =
     let at-write-inside = c .before .before .before .before .before .before in
     omega (arith, c .cap .ensures, capped-most (at-write-inside .write-inside .result .at))
 
-write-nested-returns-2 : (t : ℕ) → cycle.Lts-write_nested.Need-returns-2 (write-nested-calls t) (write-nested-at t) write-nested.Post
+write-nested-returns-2 : (t : ℕ)
+    → cycle.Lts-write_nested.Need-returns-2 (write-nested-calls t) (write-nested-at t) write-nested.Post
 write-nested-returns-2 t c =
     let at-has-room = c .before in
-    let at-add = at-has-room .before in
-    let at-element-size = at-add .before in
+    let at-placed = at-has-room .before in
+    let at-add2 = at-placed .before in
+    let at-element-size = at-add2 .before in
     let at-cap = at-element-size .before in
     let at-type-of = at-cap .before in
     let at-if1 = at-type-of .before in
     let at-out = at-if1 .before .before .before in
     let at-write-inside = at-out .before in
+    let at-least2 = at-write-inside .before .before in
+    let at-least = at-least2 .before in
+    let at-add = at-least .before in
+    let at-args = at-add .before .before .before .before in
     wrote-as (parts.nested-as _ (at-type-of .type-of .ensures))
-    (from-start (untouched _ (at-write-inside .write-inside .last .1 .1 .1 .0) (at-out .out .given .0))
     (nested-no-room _ (at-write-inside .write-inside .ensures) _ (not-false _ (at-if1 .if1 .left))
     (at-cap .cap .ensures) (at-element-size .element-size .ensures)
-    (ap (placed (at-write-inside .write-inside .result)) (at-add .add .ensures))
-    (sym (at-has-room .has-room .ensures) ∙ not-true _ (c .if2 .taken))))
+    (at-placed .placed .ensures ∙ ap (placed (at-write-inside .write-inside .result)) (at-add2 .add2 .ensures)) _
+    (early-places (at-args .args .s .at) _ (at-add .add .ensures) (at-least .least .ensures) (at-least2 .least2 .ensures)) refl
+    (at-out .out .given .0)
+    (sym (at-has-room .has-room .ensures) ∙ not-true _ (c .if2 .taken)))
 
 write-nested-put-header-requires : (t : ℕ)
     → cycle.Lts-write_nested.Need-put-header-requires (write-nested-calls t) (write-nested-at t) write-nested.Post
 write-nested-put-header-requires t c κs =
     let at-if2 = c .before in
     let at-has-room = at-if2 .before in
-    let at-element-size = at-has-room .before .before in
+    let at-element-size = at-has-room .before .before .before in
     header-fits _ _ _ (at-element-size .element-size .ensures) _ (at-has-room .has-room .ensures) (not-false _ (at-if2 .if2 .left))
 
-write-nested-add-end : (t : ℕ) → cycle.Lts-write_nested.Need-add-end (write-nested-calls t) (write-nested-at t) write-nested.Post
+write-nested-returns-3 : (t : ℕ)
+    → cycle.Lts-write_nested.Need-returns-3 (write-nested-calls t) (write-nested-at t) write-nested.Post
+write-nested-returns-3 t c =
+    let at-put-header = c .before .before .before in
+    let at-if2 = at-put-header .before .before in
+    let at-has-room = at-if2 .before in
+    let at-placed = at-has-room .before in
+    let at-add2 = at-placed .before in
+    let at-element-size = at-add2 .before in
+    let at-cap = at-element-size .before in
+    let at-type-of = at-cap .before in
+    let at-if1 = at-type-of .before in
+    let at-out = at-if1 .before .before .before in
+    let at-write-inside = at-out .before in
+    let at-least2 = at-write-inside .before .before in
+    let at-least = at-least2 .before in
+    let at-add = at-least .before in
+    let at-args = at-add .before .before .before .before in
+    wrote-as (parts.nested-as _ (at-type-of .type-of .ensures))
+    (nested-early _ (at-write-inside .write-inside .ensures) _ (not-false _ (at-if1 .if1 .left))
+    (at-cap .cap .ensures) (at-element-size .element-size .ensures)
+    (at-placed .placed .ensures ∙ ap (placed (at-write-inside .write-inside .result)) (at-add2 .add2 .ensures)) _
+    (early-places (at-args .args .s .at) _ (at-add .add .ensures) (at-least .least .ensures) (at-least2 .least2 .ensures)) refl
+    (at-out .out .given .0)
+    (sym (at-has-room .has-room .ensures) ∙ not-false _ (at-if2 .if2 .left))
+    (parts.type-short (at-args .args .container) (at-type-of .type-of .ensures))
+    (c .if3 .taken) (at-put-header .put-header .ensures))
+
+write-nested-add-end : (t : ℕ)
+    → cycle.Lts-write_nested.Need-add-end (write-nested-calls t) (write-nested-at t) write-nested.Post
 write-nested-add-end t c =
-    let at-out2 = c .before in
+    let at-out2 = c .before .before in
     let at-put-header = at-out2 .before in
     let at-if2 = at-put-header .before .before in
     let at-has-room = at-if2 .before in
-    let at-element-size = at-has-room .before .before in
+    let at-element-size = at-has-room .before .before .before in
     let at-out = at-element-size .before .before .before .before .before .before in
-    let at-good = at-out .before .before .before .before .before .before in
+    let at-good = at-out .before .before .before .before .before .before .before .before .before in
     omega (
       arith,
       at-good .good,
@@ -585,44 +645,57 @@ write-nested-add-end t c =
           (not-false _ (at-if2 .if2 .left)) (at-put-header .put-header .ensures),
     )
 
-write-nested-sub-write-inside : (t : ℕ) → cycle.Lts-write_nested.Need-sub-write-inside (write-nested-calls t) (write-nested-at t) write-nested.Post
-write-nested-sub-write-inside t c = omega arith
+write-nested-sub-write-inside-2 : (t : ℕ)
+    → cycle.Lts-write_nested.Need-sub-write-inside-2 (write-nested-calls t) (write-nested-at t) write-nested.Post
+write-nested-sub-write-inside-2 t c = omega arith
 
-write-nested-part-write-inside-end : (t : ℕ)
-    → cycle.Lts-write_nested.Need-part-write-inside-end (write-nested-calls t) (write-nested-at t) write-nested.Post
-write-nested-part-write-inside-end t c =
-    let at-put-header = c .before .before in
+write-nested-part-write-inside-end-2 : (t : ℕ)
+    → cycle.Lts-write_nested.Need-part-write-inside-end-2 (write-nested-calls t) (write-nested-at t) write-nested.Post
+write-nested-part-write-inside-end-2 t c =
+    let at-put-header = c .before .before .before in
     let at-if2 = at-put-header .before .before in
     let at-has-room = at-if2 .before in
-    let at-element-size = at-has-room .before .before in
-    omega (
-      arith,
-      inside-fits _ _ _ (at-element-size .element-size .ensures)
-          (at-has-room .has-room .ensures) (not-false _ (at-if2 .if2 .left))
-          (at-put-header .put-header .ensures),
-    )
+    let at-element-size = at-has-room .before .before .before in
+    inside-fits _ _ _ (at-element-size .element-size .ensures) (at-has-room .has-room .ensures)
+    (not-false _ (at-if2 .if2 .left)) (at-put-header .put-header .ensures)
 
-write-nested-returns-3 : (t : ℕ) → cycle.Lts-write_nested.Need-returns-3 (write-nested-calls t) (write-nested-at t) write-nested.Post
-write-nested-returns-3 t c =
+write-nested-write-inside-requires-2 : (t : ℕ)
+    → cycle.Lts-write_nested.Need-write-inside-requires-2 (write-nested-calls t) (write-nested-at t) write-nested.Post
+write-nested-write-inside-requires-2 t c κs =
+    let far-12 = c .before .before .before .before .before .before .before .before .before .before .before .before in
+    let far-24 = far-12 .before .before .before .before .before .before .before .before .before .before .before .before in
+    let at-pre = far-24 .before in
+    (omega (arith, at-pre .pre .0), tt)
+
+write-nested-returns-4 : (t : ℕ)
+    → cycle.Lts-write_nested.Need-returns-4 (write-nested-calls t) (write-nested-at t) write-nested.Post
+write-nested-returns-4 t c =
     let at-write-inside2 = c .before .before in
-    let at-put-header = at-write-inside2 .before .before .before .before in
+    let at-if3 = at-write-inside2 .before .before in
+    let at-put-header = at-if3 .before .before .before in
     let at-if2 = at-put-header .before .before in
     let at-has-room = at-if2 .before in
-    let at-add = at-has-room .before in
-    let at-element-size = at-add .before in
+    let at-placed = at-has-room .before in
+    let at-add2 = at-placed .before in
+    let at-element-size = at-add2 .before in
     let at-cap = at-element-size .before in
     let at-type-of = at-cap .before in
     let at-if1 = at-type-of .before in
     let at-out = at-if1 .before .before .before in
     let at-write-inside = at-out .before in
+    let at-least2 = at-write-inside .before .before in
+    let at-least = at-least2 .before in
+    let at-add = at-least .before in
+    let at-args = at-add .before .before .before .before in
     wrote-as (parts.nested-as _ (at-type-of .type-of .ensures))
-    (from-start (untouched _ (at-write-inside .write-inside .last .1 .1 .1 .0) (at-out .out .given .0))
-    (nested-wrote _ (at-write-inside .write-inside .ensures) _ (not-false _ (at-if1 .if1 .left))
+    (nested-again _ (at-write-inside .write-inside .ensures) _ (not-false _ (at-if1 .if1 .left))
     (at-cap .cap .ensures) (at-element-size .element-size .ensures)
-    (ap (placed (at-write-inside .write-inside .result)) (at-add .add .ensures))
-    _ _ _ _ (sym (at-has-room .has-room .ensures) ∙ not-false _ (at-if2 .if2 .left))
-    (at-put-header .put-header .ensures .0) (at-put-header .put-header .ensures .1) refl
-    (at-write-inside2 .write-inside2 .ensures)))
+    (at-placed .placed .ensures ∙ ap (placed (at-write-inside .write-inside .result)) (at-add2 .add2 .ensures)) _
+    (early-places (at-args .args .s .at) _ (at-add .add .ensures) (at-least .least .ensures) (at-least2 .least2 .ensures)) refl
+    (at-out .out .given .0)
+    (sym (at-has-room .has-room .ensures) ∙ not-false _ (at-if2 .if2 .left))
+    (at-if3 .if3 .left) (at-put-header .put-header .ensures) refl
+    (at-write-inside2 .write-inside2 .ensures))
 
 write-node-same-length : (t : ℕ) → cycle.Lts-write_node.Need-same-length (write-node-calls t) (write-node-at t) write-node.Post
 write-node-same-length t c =
@@ -698,8 +771,13 @@ pub +write-call+write-inside+write-many+write-nested+write-node+write-part+write
     (write-many-returns-2 t))
     (λ t. cycle.Lts-write_nested.spec (write-nested-calls t) (write-nested-at t)
     write-nested.Post
-    (λ c. search needs)
-    (λ c. search needs)
+    (λ c κs. search needs)
+    (λ c κs. search needs)
+    (write-nested-add-least t)
+    (λ c κs. search needs)
+    (write-nested-sub-write-inside t)
+    (write-nested-part-write-inside-start t)
+    (write-nested-part-write-inside-end t)
     (write-nested-write-inside-requires t)
     (λ c. search needs)
     (write-nested-returns t)
@@ -709,16 +787,19 @@ pub +write-call+write-inside+write-many+write-nested+write-node+write-part+write
     (write-nested-element-size-requires t)
     (λ c κs. search needs)
     (λ c κs. search needs)
+    (λ c κs. search needs)
     (λ c. search needs)
     (write-nested-returns-2 t)
     (write-nested-put-header-requires t)
-    (write-nested-add-end t)
-    (write-nested-sub-write-inside t)
     (λ c. search needs)
-    (write-nested-part-write-inside-end t)
+    (write-nested-returns-3 t)
+    (write-nested-add-end t)
+    (write-nested-sub-write-inside-2 t)
+    (λ c. search needs)
+    (write-nested-part-write-inside-end-2 t)
     (write-nested-write-inside-requires-2 t)
     (λ c. search needs)
-    (write-nested-returns-3 t))
+    (write-nested-returns-4 t))
     (λ t. cycle.Lts-write_node.spec (write-node-calls t) (write-node-at t)
     write-node.Post
     (λ c κs. search needs)
