@@ -16,6 +16,6 @@ height Container.Argument = 0
 abbrev pub weight : Part → ℕ
 weight Part.RuleName = 0
 weight Part.Signer = 0
-weight Part.Term = 13
+weight Part.Term = 14
 weight Part.ValueEdge = 0
-weight (Part.Nested c) = 8 * height c + 4
+weight (Part.Nested c) = 8 * height c + 5

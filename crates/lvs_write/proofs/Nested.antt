@@ -16,15 +16,11 @@ use Rattle.tlv_writer.proofs.Stores.{stored-front, stored-length, stored-inside
 use Rattle.lvs_description.specs.Format.{Lists}
 use Rattle.lvs_write.specs.declared.Cursor.{Cursor}
 use Rattle.lvs_write.specs.Spelled.{Bytes, wrapped}
-use Rattle.lvs_write.specs.Steps.{el, capped, elementSize, headerBytes, listsAt, stateOf, movedBy, Writes}
+use Rattle.lvs_write.specs.Steps.{el, capped, elementSize, headerBytes, listsAt, stateOf, movedBy, frontOf, Writes, Early, WritesEarly}
 use Rattle.lvs_write.proofs.Sizes.{capped-low, capped-is, capped-add, capped-capped, capped-element}
 use Rattle.lvs_write.proofs.Sizes.{header-then, header-length, element-length, element-room}
 use Rattle.lvs_write.proofs.Places.{puts-lent}
 use Rattle.lvs_write.proofs.Moves.{apart, state-ok, state-not, moved-none, moved-some, stopped-wrote, one-wrote}
-
--- the same place, where nothing has been written yet
-abbrev pub front : Cursor → Cursor
-front s = record { ok = s .ok; number = s .number; text = s .text; at = 0 }
 
 -- what the inside, gone through from s to m, was found to be
 record Inside (g : Lists → Bytes) (ns ts : List ℕ) (s m : Cursor) : Type 0 where
@@ -35,30 +31,39 @@ record Inside (g : Lists → Bytes) (ns ts : List ℕ) (s m : Cursor) : Type 0 w
   size-is : capped (m .at) ≡ capped (length bytes)
   rest-is : listsAt ns ts (m .number) (m .text) ≡ rest
 
--- where the inside is written first, in a list of `len` bytes: behind a header of two bytes, if there is room, and 252 bytes at most
-pub record Early (at len early until : ℕ) : Type 0 where
-  pub order : early ≤ until
-  pub within : until ≤ len
-  pub short : until ≤ early + 252
-  pub place : at + 2 ≤ 32768 → at + 2 ≤ len → early ≡ at + 2
-  pub room : (k : ℕ) → k ≤ 252 → early + k ≤ len → early + k ≤ until
-
 pub early-places : (at len : ℕ) {a early until : ℕ} → a ≡ capped (at + 2) → early ≡ min a len → until ≡ min (early + 252) len
     → Early at len early until
 unfolding capped
 early-places at len o p q =
     record { order = omega arith; within = omega arith; short = omega arith; place = λ h g. omega arith; room = λ k h g. omega arith }
 
+pub wrote-early : {g : Lists → Bytes} {ns ts b y : List ℕ} {early until : ℕ} {s f m : Cursor} → Early (s .at) (length b) early until
+    → length y ≡ length (take (until - early) (drop early b)) → f ≡ frontOf s → Writes g ns ts (take (until - early) (drop early b)) y f m
+    → WritesEarly g ns ts b (putMid early (until - early) b y) s m
+wrote-early {g} {ns} {ts} {b} {y} {early} {until} {s} {f} {m} E same f-is W =
+    record {
+      early = early;
+      until = until;
+      places = E;
+      part = y;
+      part-long = same ∙ mid-len early until b (E .within);
+      now-is = refl;
+      wrote = subst (λ (x : Cursor). Writes g ns ts (take (until - early) (drop early b)) y x m) f-is W;
+    }
+
 moved-nothing : (g : Lists → Bytes) → movedBy g none ≡ none
 unfolding movedBy
 moved-nothing g = refl
 
-module _ {g : Lists → Bytes} {ns ts e e′ : List ℕ} (s : Cursor) {m : Cursor} (M : Writes g ns ts e e′ (front s) m) where
+module _ {g : Lists → Bytes} {ns ts b lent : List ℕ} {s m : Cursor} (W : WritesEarly g ns ts b lent s m) where
+  M : Writes g ns ts (take (W .until - W .early) (drop (W .early) b)) (W .part) (frontOf s) m
+  M = W .wrote
+
   abbrev L : Lists
   L = listsAt ns ts (s .number) (s .text)
 
-  begin : s .ok ≡ true → stateOf ns ts (front s) ≡ some (capped 0, L)
-  begin q = state-ok ns ts (front s) q
+  begin : s .ok ≡ true → stateOf ns ts (frontOf s) ≡ some (capped 0, L)
+  begin q = state-ok ns ts (frontOf s) q
 
   inside : m .ok ≡ true → Inside g ns ts s m
   inside p = go (s .ok) refl
@@ -82,10 +87,10 @@ module _ {g : Lists → Bytes} {ns ts e e′ : List ℕ} (s : Cursor) {m : Curso
 
       go : (b : Bool) → s .ok ≡ b → Inside g ns ts s m
       go true q = more q (g L) refl
-      go false q = absurd (apart (sym (M .moved ∙ ap (movedBy g) (state-not ns ts (front s) q) ∙ moved-nothing g) ∙ there))
+      go false q = absurd (apart (sym (M .moved ∙ ap (movedBy g) (state-not ns ts (frontOf s) q) ∙ moved-nothing g) ∙ there))
 
   -- no inside, no element
-  pub nested-stopped : (t : ℕ) {b now : List ℕ} → m .ok ≡ false → Writes (λ l. wrapped t (g l)) ns ts b now s m
+  pub nested-stopped : (t : ℕ) → m .ok ≡ false → Writes (λ l. wrapped t (g l)) ns ts b lent s m
   unfolding wrapped
   nested-stopped t e = stopped-wrote e (λ k l p. go (s .ok) refl k l p)
     where
@@ -118,10 +123,10 @@ module _ {g : Lists → Bytes} {ns ts e e′ : List ℕ} (s : Cursor) {m : Curso
         ap (λ (k : ℕ). capped (s .at + k)) (sym (element-length t bs)) ∙
         sym (capped-add (s .at) (length (el t bs)))
 
-    written : {b now : List ℕ} → (s .at + length (el t bs) ≤ 32768 → s .at + length (el t bs) ≤ length b → Stored b now (s .at) (el t bs))
+    written : {now : List ℕ} → (s .at + length (el t bs) ≤ 32768 → s .at + length (el t bs) ≤ length b → Stored b now (s .at) (el t bs))
         → Writes (λ l. wrapped t (g l)) ns ts b now s r
     unfolding wrapped
-    written {b} {now} st =
+    written {now} st =
         one-wrote (el t bs) (state-ok ns ts s (I .ok)) (rw (I .is))
         (ap (stateOf ns ts) r-is ∙ state-ok ns ts _ refl ∙ (λ i. some ((capped-capped (s .at + size) ∙ sizes) i, I .rest-is i)))
         (λ h room.
@@ -129,7 +134,7 @@ module _ {g : Lists → Bytes} {ns ts e e′ : List ℕ} (s : Cursor) {m : Curso
         subst (λ (x : ℕ). Stored b now x (el t bs)) (sym low) (st (omega arith) (omega arith)))
 
     -- the inside was put where it was lent room for all of it
-    filled : {c c′ : List ℕ} {w : Cursor} → Writes g ns ts c c′ (front s) w → length bs ≤ 32768 → length bs ≤ length c → Stored c c′ 0 bs
+    filled : {c c′ : List ℕ} {w : Cursor} → Writes g ns ts c c′ (frontOf s) w → length bs ≤ 32768 → length bs ≤ length c → Stored c c′ 0 bs
     filled W h room =
         W .put 0 _ bs (I .rest) (begin (I .ok) ∙ ap (λ (j : ℕ). some (j, L)) (capped-is 0 (omega arith))) (I .is) (omega arith) (omega arith)
 
@@ -141,64 +146,63 @@ module _ {g : Lists → Bytes} {ns ts e e′ : List ℕ} (s : Cursor) {m : Curso
         let n-exact : n ≡ length bs = n-is ∙ I .size-is ∙ capped-is (length bs) (omega arith) in
         (n-exact, size-is ∙ ap (elementSize t) n-exact ∙ sym long)
 
-    -- the inside was first written from `early` on, into what was lent up to `until`
-    module _ (b : List ℕ) {early until : ℕ} (E : Early (s .at) (length b) early until) (part-is : e ≡ take (until - early) (drop early b))
-        (same : length e′ ≡ length e) where
-      abbrev lent : List ℕ
-      lent = putMid early (until - early) b e′
+    -- what was lent at first
+    lent-is : lent ≡ putMid (W .early) (W .until - W .early) b (W .part)
+    lent-is = W .now-is
 
-      lent-long : length lent ≡ length b
-      lent-long = same-len-mid early (until - early) b e′ (same ∙ ap length part-is)
+    part : length (take (W .until - W .early) (drop (W .early) b)) ≡ W .until - W .early
+    part = mid-len (W .early) (W .until) b (W .places .within)
 
-      part : length e ≡ until - early
-      part = ap length part-is ∙ mid-len early until b (E .within)
+    lent-long : length lent ≡ length b
+    lent-long = ap length lent-is ∙ same-len-mid (W .early) (W .until - W .early) b (W .part) (W .part-long ∙ sym part)
 
-      -- if there is no room, nothing has to be written;
-      pub nested-no-room : leb (s .at + size) (length lent) ≡ false → Writes (λ l. wrapped t (g l)) ns ts b lent s r
-      nested-no-room far =
-          let beyond : length lent < s .at + size = leb-false _ _ far in
-          written (λ h room. absurd (omega (arith, exact h .1, lent-long)))
+    -- if there is no room, nothing has to be written;
+    pub nested-no-room : leb (s .at + size) (length lent) ≡ false → Writes (λ l. wrapped t (g l)) ns ts b lent s r
+    nested-no-room far =
+        let beyond : length lent < s .at + size = leb-false _ _ far in
+        written (λ h room. absurd (omega (arith, exact h .1, lent-long)))
 
-      -- if it has no more bytes than a header of two bytes can say, that is its place, and the header is put before it;
-      pub nested-early : {b₂ : List ℕ} {start : ℕ} → leb (s .at + size) (length lent) ≡ true → length (numberBytes t) ≡ 1 → n ≤ 252
-          → (start ≡ s .at + length (headerBytes t n)) × Stored lent b₂ (s .at) (headerBytes t n) → Writes (λ l. wrapped t (g l)) ns ts b b₂ s r
-      nested-early {b₂} fits type-short short H =
-          written
-          (λ h room.
-          let x = exact h in
-          let there : s .at + size ≤ length b = omega (arith, leb-true (s .at + size) (length lent) fits, lent-long) in
-          let two : length (headerBytes t n) ≡ 2 = header-length t n ∙ (λ i. type-short i + short-size n (omega arith) i) in
-          let long : elementSize t n ≡ length (headerBytes t n) + n = element-room t n in
-          let place : early ≡ s .at + 2 = E .place (omega (arith, x .1)) (omega arith) in
-          let enough : early + n ≤ until = E .room n short (omega arith) in
-          let back : Stored e e′ 0 bs = filled M (omega (arith, x .0)) (omega (arith, x .0, part)) in
-          let inside : Stored b lent early bs =
-          stored-inside b early (until - early) (omega (arith, E .order, E .within)) (omega (arith, x .0))
-          (subst (λ (z : List ℕ). Stored z e′ 0 bs) part-is back) in
-          let head : headerBytes t n ++ bs ≡ el t bs = ap (λ (j : ℕ). headerBytes t j ++ bs) (x .0) ∙ header-then t bs in
-          subst (Stored b b₂ (s .at)) head (stored-front inside (H .1) (omega arith)))
+    -- if it has no more bytes than a header of two bytes can say, that is its place, and the header is put before it;
+    pub nested-early : {b₂ : List ℕ} {start : ℕ} → leb (s .at + size) (length lent) ≡ true → length (numberBytes t) ≡ 1 → n ≤ 252
+        → (start ≡ s .at + length (headerBytes t n)) × Stored lent b₂ (s .at) (headerBytes t n) → Writes (λ l. wrapped t (g l)) ns ts b b₂ s r
+    nested-early {b₂} fits type-short short H =
+        written
+        (λ h room.
+        let x = exact h in
+        let there : s .at + size ≤ length b = omega (arith, leb-true (s .at + size) (length lent) fits, lent-long) in
+        let two : length (headerBytes t n) ≡ 2 = header-length t n ∙ (λ i. type-short i + short-size n (omega arith) i) in
+        let long : elementSize t n ≡ length (headerBytes t n) + n = element-room t n in
+        let place : W .early ≡ s .at + 2 = W .places .place (omega (arith, x .1)) (omega arith) in
+        let enough : W .early + n ≤ W .until = W .places .room n short (omega arith) in
+        let back = filled M (omega (arith, x .0)) (omega (arith, x .0, part)) in
+        let inside : Stored b lent (W .early) bs =
+        subst (λ (z : List ℕ). Stored b z (W .early) bs) (sym lent-is)
+        (stored-inside b (W .early) (W .until - W .early) (omega (arith, W .places .order, W .places .within)) (omega (arith, x .0)) back) in
+        let head : headerBytes t n ++ bs ≡ el t bs = ap (λ (j : ℕ). headerBytes t j ++ bs) (x .0) ∙ header-then t bs in
+        subst (Stored b b₂ (s .at)) head (stored-front inside (H .1) (omega arith)))
 
-      -- if it has more, it is written again behind the longer header, over all that was put too early
-      pub nested-again : {b₂ y : List ℕ} {start end : ℕ} {w : Cursor} → leb (s .at + size) (length lent) ≡ true → 252 < n
-          → (start ≡ s .at + length (headerBytes t n)) × Stored lent b₂ (s .at) (headerBytes t n) → end ≡ start + n
-          → Writes g ns ts (take (end - start) (drop start b₂)) y (front s) w
-          → Writes (λ l. wrapped t (g l)) ns ts b (putMid start (end - start) b₂ y) s r
-      nested-again {b₂} {y} {start} {end} fits long H end-is W =
-          written
-          (λ h room.
-          let x = exact h in
-          let there : s .at + size ≤ length b = omega (arith, leb-true (s .at + size) (length lent) fits, lent-long) in
-          let header : elementSize t n ≡ length (headerBytes t n) + n = element-room t n in
-          let one : length (headerBytes t n) ≡ length (numberBytes t) + length (numberBytes n) = header-length t n in
-          let b-long : length b₂ ≡ length lent = stored-length (H .1) in
-          let ends : end ≤ length b₂ = omega (arith, H .0, there, lent-long) in
-          let back : Stored (take (end - start) (drop start b₂)) y 0 bs =
-          filled W (omega (arith, x .0)) (omega (arith, x .0, mid-len start end b₂ ends)) in
-          let over = puts-lent t (s .at) n size-is (x .0) H end-is ends back .put (omega (arith, there, lent-long)) in
-          let place : early ≡ s .at + 2 = E .place (omega (arith, x .1)) (omega arith) in
-          stored-over b e′ early until (omega arith) (E .order) (omega (arith, x .1, long-size n long, E .short)) (omega (arith, x .1))
-          (same ∙ part)
-          over)
+    -- if it has more, it is written again behind the longer header, over all that was put too early
+    pub nested-again : {b₂ y : List ℕ} {start end : ℕ} {f w : Cursor} → leb (s .at + size) (length lent) ≡ true → 252 < n
+        → (start ≡ s .at + length (headerBytes t n)) × Stored lent b₂ (s .at) (headerBytes t n) → end ≡ start + n
+        → f ≡ frontOf s → Writes g ns ts (take (end - start) (drop start b₂)) y f w
+        → Writes (λ l. wrapped t (g l)) ns ts b (putMid start (end - start) b₂ y) s r
+    nested-again {b₂} {y} {start} {end} {f} {w} fits long H end-is f-is A =
+        written
+        (λ h room.
+        let x = exact h in
+        let there : s .at + size ≤ length b = omega (arith, leb-true (s .at + size) (length lent) fits, lent-long) in
+        let header : elementSize t n ≡ length (headerBytes t n) + n = element-room t n in
+        let one : length (headerBytes t n) ≡ length (numberBytes t) + length (numberBytes n) = header-length t n in
+        let b-long : length b₂ ≡ length lent = stored-length (H .1) in
+        let ends : end ≤ length b₂ = omega (arith, H .0, there, lent-long) in
+        let again = subst (λ (z : Cursor). Writes g ns ts (take (end - start) (drop start b₂)) y z w) f-is A in
+        let back : Stored (take (end - start) (drop start b₂)) y 0 bs = filled again (omega (arith, x .0)) (omega (arith, x .0, mid-len start end b₂ ends)) in
+        let over = puts-lent t (s .at) n size-is (x .0) H end-is ends back .put (omega (arith, there, lent-long)) in
+        let place : W .early ≡ s .at + 2 = W .places .place (omega (arith, x .1)) (omega arith) in
+        stored-over b (W .part) (W .early) (W .until) (omega arith) (W .places .order) (omega (arith, x .1, long-size n long, W .places .short))
+        (omega (arith, x .1))
+        (W .part-long)
+        (subst (λ (z : List ℕ). Stored z (putMid start (end - start) b₂ y) (s .at) (el t bs)) lent-is over))
 
 -- the place behind an element, whose inside ends at m
 abbrev pub placed : Cursor → ℕ → Cursor

@@ -62,6 +62,29 @@ pub record Writes (f : Lists → Bytes) (ns ts before now : List ℕ) (s r : Cur
   pub put : (k : ℕ) (l : Lists) (bs : List ℕ) (rest : Lists) → stateOf ns ts s ≡ some (k, l) → f l ≡ some (bs, rest)
       → k + length bs ≤ maxModelBytes → k + length bs ≤ length before → Stored before now k bs
 
+-- the same place, in a part where nothing has been written yet
+abbrev pub frontOf : Cursor → Cursor
+frontOf s = record { ok = s .ok; number = s .number; text = s .text; at = 0 }
+
+-- from where to where an inside is lent a part of `len` bytes at first: behind a header of two bytes at `at`, if there is room, and only as many
+-- bytes as such a header can say
+pub record Early (at len early until : ℕ) : Type 0 where
+  pub order : early ≤ until
+  pub within : until ≤ len
+  pub short : until ≤ early + 252
+  pub place : at + 2 ≤ maxModelBytes → at + 2 ≤ len → early ≡ at + 2
+  pub room : (k : ℕ) → k ≤ 252 → early + k ≤ len → early + k ≤ until
+
+-- f was gone through from s to r, and what was put stands in that part
+pub record WritesEarly (f : Lists → Bytes) (ns ts before now : List ℕ) (s r : Cursor) : Type 0 where
+  pub early : ℕ
+  pub until : ℕ
+  pub places : Early (s .at) (length before) early until
+  pub part : List ℕ
+  pub part-long : length part ≡ until - early
+  pub now-is : now ≡ take early before ++ (part ++ drop (until - early) (drop early before))
+  pub wrote : Writes f ns ts (take (until - early) (drop early before)) part (frontOf s) r
+
 -- the same whatever the texts are
 abbrev pub WritesNumbers : (Lists → Bytes) → List ℕ → List ℕ → List ℕ → Cursor → Cursor → Type 0
 WritesNumbers f ns before now s r = (ts : List ℕ) → Writes f ns ts before now s r

@@ -5,7 +5,7 @@ ghost use Rattle.lvs_spec.specs.Types as type;
 ghost use Rattle.lvs_description.specs.Format.{integer, maybe};
 ghost use Rattle.lvs_description.specs.Description.{node, symbol, patternEdge, call, term, argument};
 ghost use Rattle.lvs_write.specs.Spelled.{spelled, counted, insideFrom, nestedFrom, partFrom, typeOf};
-ghost use Rattle.lvs_write.specs.Steps.{Writes, WritesNumbers};
+ghost use Rattle.lvs_write.specs.Steps.{frontOf, Writes, WritesEarly, WritesNumbers};
 use crate::Container;
 use crate::Cursor;
 use crate::Part;
@@ -78,9 +78,8 @@ fn write_part(part: Part, numbers: &[u64], texts: &[u8], out: &mut [u8], s: Curs
     }
 }
 
-// The inside of a container is written into its place behind the header, and where that is depends on how many bytes there are. First it is lent
-// the place behind a header of two bytes, with room for as many as such a header can say: nearly always that is its place. If there are more,
-// it is written again behind the longer header, over all that was put too early.
+// A container: the inside in its place behind the header, and where that is depends on how many bytes there are. It is written where it begins
+// nearly always; if it has more bytes, again behind the longer header, over all that was put too early.
 fn write_nested(
     container: Container,
     numbers: &[u64],
@@ -91,20 +90,12 @@ fn write_nested(
     ensures { λ r.
         ⌜ Writes (nestedFrom container) (now (numbers .entry)) (now (texts .entry)) (now (out .entry)) (now (out .exit)) s r ⌝ }
 {
-    let front = Cursor {
-        ok: s.ok,
-        number: s.number,
-        text: s.text,
-        at: 0,
-    };
-    let at = s.at;
-    let early = least(add(at, 2), out.len());
-    let until = least(early + SHORT, out.len());
-    let inside = write_inside(container, numbers, texts, &mut out[early..until], front);
+    let inside = attempt(container, numbers, texts, out, s);
     if !inside.ok {
         return inside;
     }
     let typ = type_of(container) as u64;
+    let at = s.at;
     let n = cap(inside.at);
     let size = element_size(typ, n);
     let next = placed(inside, add(at, size));
@@ -116,8 +107,33 @@ fn write_nested(
         return next;
     }
     let end = start + n;
-    write_inside(container, numbers, texts, &mut out[start..end], front);
+    write_inside(container, numbers, texts, &mut out[start..end], front(s));
     next
+}
+
+// The inside of the container at s where it stands if its header has two bytes, with room for as much as such a header can say. Whoever goes on
+// from here puts the header, or writes the inside again.
+fn attempt(container: Container, numbers: &[u64], texts: &[u8], out: &mut [u8], s: Cursor) -> Cursor
+    ensures { λ r.
+        ⌜
+        WritesEarly (insideFrom container) (now (numbers .entry)) (now (texts .entry)) (now (out .entry)) (now (out .exit)) s r
+        ⌝ }
+{
+    let early = least(add(s.at, 2), out.len());
+    let until = least(early + SHORT, out.len());
+    write_inside(container, numbers, texts, &mut out[early..until], front(s))
+}
+
+// The same place, in a part where nothing has been written yet.
+fn front(s: Cursor) -> Cursor
+    ensures { λ r. ⌜ r ≡ frontOf s ⌝ }
+{
+    Cursor {
+        ok: s.ok,
+        number: s.number,
+        text: s.text,
+        at: 0,
+    }
 }
 
 // The place behind what ends at `inside`.

@@ -8,13 +8,15 @@ use Rattle.lvs_write.specs.Spelled.{partFrom}
 use Rattle.lvs_write.proofs.Heights.{height, weight}
 use Rattle.lvs_write.proofs.Moves.{wrote-as, then-wrote}
 use Rattle.lvs_write.proofs.Many.{Running, running-first, running-next, running-last, running-stopped, counted-wrote}
-use Rattle.lvs_write.proofs.Nested.{early-places, nested-stopped, nested-no-room, nested-early, nested-again, placed}
+use Rattle.lvs_write.proofs.Nested.{early-places, wrote-early, nested-stopped, nested-no-room, nested-early, nested-again, placed}
 use Rattle.lvs_write.proofs.Places.{header-fits, inside-fits}
 use Rattle.lvs_write.proofs.Sizes.{capped-most}
 use Rattle.lvs_write.proofs.Containers as parts
 use Prim.Native.Nat.{ℕ, _<_}
 use borrow.Fn.Kinds.{In}
 use borrow.Fn.PlainCycle.{Measures, is, falls, and}
+use Rattle.lvs_write.proofs.parts.attempt.Reads as attempt
+use Rattle.lvs_write.proofs.parts.attempt.Kinds as attempt-kinds
 use Rattle.lvs_write.proofs.parts.write_call.Reads as write-call
 use Rattle.lvs_write.proofs.parts.write_call.Kinds as write-call-kinds
 use Rattle.lvs_write.proofs.parts.write_inside.Reads as write-inside
@@ -44,18 +46,22 @@ use Rattle.lvs_write.proofs.leaves.write_value_edge.Reads as write-valu
 use Rattle.lvs_write.proofs.lists.least.Reads as least-reads
 use Rattle.lvs_write.proofs.lists.stopped.Reads as stopped-reads
 use Rattle.lvs_write.proofs.lists.take_number.Reads as take-number-reads
+use Rattle.lvs_write.proofs.parts.front.Reads as front-reads
 use Rattle.lvs_write.proofs.parts.placed.Reads as placed-reads
 use Rattle.lvs_write.proofs.parts.type_of.Reads as type-of-reads
 use Rattle.lvs_write.proofs.parts.write_argument.Reads as write-argument-reads
 use Rattle.lvs_write.proofs.parts.write_parent.Reads as write-parent-reads
 use Rattle.lvs_write.proofs.parts.write_symbol.Reads as write-symbol-reads
-use Rattle.lvs_write.proofs.parts.+write_call+write_inside+write_many+write_nested+write_node+write_part+write_pattern_edge+write_term as cycle
-use Rattle.lvs_write.proofs.parts.+write_call+write_inside+write_many+write_nested+write_node+write_part+write_pattern_edge+write_term.{
+use Rattle.lvs_write.proofs.parts.+attempt+write_call+write_inside+write_many+write_nested+write_node+write_part+write_pattern_edge+write_term as cycle
+use Rattle.lvs_write.proofs.parts.+attempt+write_call+write_inside+write_many+write_nested+write_node+write_part+write_pattern_edge+write_term.{
   statement,
 }
-use Rattle.lvs_write.proofs.parts.+write_call+write_inside+write_many+write_nested+write_node+write_part+write_pattern_edge+write_term.Tie.{
+use Rattle.lvs_write.proofs.parts.+attempt+write_call+write_inside+write_many+write_nested+write_node+write_part+write_pattern_edge+write_term.Tie.{
   close,
 }
+
+abbrev μ-attempt : Measures 3 attempt-kinds.ps ℕ
+μ-attempt κs a = 8 * height (a .0) + 3
 
 abbrev μ-write-call : Measures 3 write-call-kinds.ps ℕ
 μ-write-call κs a = 9
@@ -67,7 +73,7 @@ abbrev μ-write-many : Measures 3 write-many-kinds.ps ℕ
 μ-write-many κs a = weight (a .0) + 1
 
 abbrev μ-write-nested : Measures 3 write-nested-kinds.ps ℕ
-μ-write-nested κs a = 8 * height (a .0) + 3
+μ-write-nested κs a = 8 * height (a .0) + 4
 
 abbrev μ-write-node : Measures 3 write-node-kinds.ps ℕ
 μ-write-node κs a = 41
@@ -79,7 +85,7 @@ abbrev μ-write-pattern-edge : Measures 3 write-pattern-edge-kinds.ps ℕ
 μ-write-pattern-edge κs a = 33
 
 abbrev μ-write-term : Measures 3 write-term-kinds.ps ℕ
-μ-write-term κs a = 12
+μ-write-term κs a = 13
 
 abbrev write-many-Inv-loop : cycle.Lts-write_many.InvT-loop
 write-many-Inv-loop part numbers texts out₀ left₀ c₀ out left c =
@@ -87,6 +93,12 @@ write-many-Inv-loop part numbers texts out₀ left₀ c₀ out left c =
 
 abbrev write-many-μ-loop : cycle.Lts-write_many.MeasureT-loop
 write-many-μ-loop part numbers texts out₀ left₀ c₀ out left c = left
+
+abbrev attempt-at : ℕ → In 3 attempt-kinds.ps
+attempt-at t = and 3 attempt-kinds.ps (is 3 attempt-kinds.ps μ-attempt t) attempt.Pre
+
+abbrev attempt-below : ℕ → In 3 attempt-kinds.ps
+attempt-below t = and 3 attempt-kinds.ps (falls 3 attempt-kinds.ps _<_ μ-attempt t) attempt.Pre
 
 abbrev write-call-at : ℕ → In 3 write-call-kinds.ps
 write-call-at t =
@@ -168,6 +180,18 @@ abbrev write-term-below : ℕ → In 3 write-term-kinds.ps
 write-term-below t =
     and 3 write-term-kinds.ps (falls 3 write-term-kinds.ps _<_ μ-write-term t) write-term.Pre
 
+abbrev attempt-calls : ℕ → cycle.Lts-attempt.Claims
+attempt-calls t = (
+  add-reads.Asked,
+  add-reads.Learnt,
+  least-reads.Asked,
+  least-reads.Learnt,
+  front-reads.Asked,
+  front-reads.Learnt,
+  write-inside-below t,
+  write-inside.Post,
+)
+
 abbrev write-call-calls : ℕ → cycle.Lts-write_call.Claims
 write-call-calls t = (
   write-text-reads.Asked,
@@ -202,24 +226,26 @@ write-many-calls t = (
 
 abbrev write-nested-calls : ℕ → cycle.Lts-write_nested.Claims
 write-nested-calls t = (
-  add-reads.Asked,
-  add-reads.Learnt,
-  least-reads.Asked,
-  least-reads.Learnt,
-  write-inside-below t,
-  write-inside.Post,
+  attempt-below t,
+  attempt.Post,
   type-of-reads.Asked,
   type-of-reads.Learnt,
   cap-reads.Asked,
   cap-reads.Learnt,
   element-size-reads.Asked,
   element-size-reads.Learnt,
+  add-reads.Asked,
+  add-reads.Learnt,
   placed-reads.Asked,
   placed-reads.Learnt,
   has-room-reads.Asked,
   has-room-reads.Learnt,
   put-header-reads.Asked,
   put-header-reads.Learnt,
+  front-reads.Asked,
+  front-reads.Learnt,
+  write-inside-below t,
+  write-inside.Post,
 )
 
 abbrev write-node-calls : ℕ → cycle.Lts-write_node.Claims
@@ -270,7 +296,8 @@ write-term-calls t = (
 
 write-call-write-many-requires : (t : ℕ) → cycle.Lts-write_call.Need-write-many-requires (write-call-calls t) (write-call-at t) write-call.Post
 write-call-write-many-requires t c κs =
-    let at-before = c .before .before .before .before .before .before .before in
+    let at-before = c .before .before .before .before .before .before in
+    let at-before = at-before .before in
     let at-pre = at-before .before in
     (omega (arith, at-pre .pre .0), tt)
 
@@ -364,7 +391,8 @@ write-many-loop-holds t c = running-first _ _ _ _ _ _
 write-many-write-part-requires : (t : ℕ)
     → cycle.Lts-write_many.Need-write-part-requires (write-many-calls t) (write-many-at t) write-many.Post write-many-Inv-loop write-many-μ-loop
 write-many-write-part-requires t c κs =
-    let at-before = c .before .before .before .before .before .before .before .before .before in
+    let at-before = c .before .before .before .before .before .before .before .before in
+    let at-before = at-before .before in
     let at-pre = at-before .before in
     (omega (arith, at-pre .pre .0), tt)
 
@@ -392,27 +420,31 @@ write-many-returns-2 t c =
 
 write-node-write-many-requires : (t : ℕ) → cycle.Lts-write_node.Need-write-many-requires (write-node-calls t) (write-node-at t) write-node.Post
 write-node-write-many-requires t c κs =
-    let at-before = c .before .before .before .before .before .before .before .before .before .before .before in
+    let at-before = c .before .before .before .before .before .before .before .before .before .before in
+    let at-before = at-before .before in
     let at-pre = at-before .before in
     (omega (arith, at-pre .pre .0), tt)
 
 write-node-write-many-requires-2 : (t : ℕ) → cycle.Lts-write_node.Need-write-many-requires-2 (write-node-calls t) (write-node-at t) write-node.Post
 write-node-write-many-requires-2 t c κs =
-    let at-before = c .before .before .before .before .before .before .before .before .before .before .before in
+    let at-before = c .before .before .before .before .before .before .before .before .before .before in
+    let at-before = at-before .before in
     let far-12 = at-before .before in
     let at-pre = far-12 .before .before .before .before in
     (omega (arith, at-pre .pre .0), tt)
 
 write-node-write-many-requires-3 : (t : ℕ) → cycle.Lts-write_node.Need-write-many-requires-3 (write-node-calls t) (write-node-at t) write-node.Post
 write-node-write-many-requires-3 t c κs =
-    let at-before = c .before .before .before .before .before .before .before .before .before .before .before in
+    let at-before = c .before .before .before .before .before .before .before .before .before .before in
+    let at-before = at-before .before in
     let far-12 = at-before .before in
     let at-pre = far-12 .before .before .before .before .before .before .before .before in
     (omega (arith, at-pre .pre .0), tt)
 
 write-node-write-many-requires-4 : (t : ℕ) → cycle.Lts-write_node.Need-write-many-requires-4 (write-node-calls t) (write-node-at t) write-node.Post
 write-node-write-many-requires-4 t c κs =
-    let at-before = c .before .before .before .before .before .before .before .before .before .before .before in
+    let at-before = c .before .before .before .before .before .before .before .before .before .before in
+    let at-before = at-before .before in
     let far-12 = at-before .before in
     let at-pre = far-12 .before .before .before .before .before .before .before .before .before .before .before .before in
     (omega (arith, at-pre .pre .0), tt)
@@ -486,7 +518,8 @@ write-part-returns-5 t c =
 write-pattern-edge-write-many-requires : (t : ℕ)
     → cycle.Lts-write_pattern_edge.Need-write-many-requires (write-pattern-edge-calls t) (write-pattern-edge-at t) write-pattern-edge.Post
 write-pattern-edge-write-many-requires t c κs =
-    let at-before = c .before .before .before .before .before .before .before in
+    let at-before = c .before .before .before .before .before .before in
+    let at-before = at-before .before in
     let at-pre = at-before .before in
     (omega (arith, at-pre .pre .0), tt)
 
@@ -499,7 +532,8 @@ write-pattern-edge-returns t c =
 
 write-term-write-nested-requires : (t : ℕ) → cycle.Lts-write_term.Need-write-nested-requires (write-term-calls t) (write-term-at t) write-term.Post
 write-term-write-nested-requires t c κs =
-    let at-before = c .before .before .before .before .before .before in
+    let at-before = c .before .before .before .before .before in
+    let at-before = at-before .before in
     let at-pre = at-before .before in
     (omega (arith, at-pre .pre .0), tt)
 
@@ -531,172 +565,6 @@ write-term-returns-4 t c =
     parts.term-other (at-take-number .take-number .ensures) (at-match .match .rest .0 .0 .1)
     (at-match .match .rest .0 .1) (at-match .match .rest .1) (c .stopped .ensures)
 
-write-nested-add-least : (t : ℕ)
-    → cycle.Lts-write_nested.Need-add-least (write-nested-calls t) (write-nested-at t) write-nested.Post
-write-nested-add-least t c = omega (arith, c .least .ensures)
-
-write-nested-sub-write-inside : (t : ℕ)
-    → cycle.Lts-write_nested.Need-sub-write-inside (write-nested-calls t) (write-nested-at t) write-nested.Post
-write-nested-sub-write-inside t c = omega (arith, c .before .least .ensures, c .least2 .ensures)
-
-write-nested-part-write-inside-start : (t : ℕ)
-    → cycle.Lts-write_nested.Need-part-write-inside-start (write-nested-calls t) (write-nested-at t) write-nested.Post
-write-nested-part-write-inside-start t c = omega (arith, c .before .least .ensures)
-
-write-nested-part-write-inside-end : (t : ℕ)
-    → cycle.Lts-write_nested.Need-part-write-inside-end (write-nested-calls t) (write-nested-at t) write-nested.Post
-write-nested-part-write-inside-end t c = omega (arith, c .least2 .ensures)
-
-write-nested-write-inside-requires : (t : ℕ)
-    → cycle.Lts-write_nested.Need-write-inside-requires (write-nested-calls t) (write-nested-at t) write-nested.Post
-write-nested-write-inside-requires t c κs =
-    let at-pre = c .before .before .before .before .before .before .before in
-    (omega (arith, at-pre .pre .0), tt)
-
-write-nested-returns : (t : ℕ)
-    → cycle.Lts-write_nested.Need-returns (write-nested-calls t) (write-nested-at t) write-nested.Post
-write-nested-returns t c =
-    let at-write-inside = c .before .before .before .before in
-    wrote-as (parts.nested-as _ refl) (nested-stopped _ (at-write-inside .write-inside .ensures) _ (not-true _ (c .if1 .taken)))
-
-write-nested-element-size-requires : (t : ℕ)
-    → cycle.Lts-write_nested.Need-element-size-requires (write-nested-calls t) (write-nested-at t) write-nested.Post
-write-nested-element-size-requires t c κs =
-    let at-write-inside = c .before .before .before .before .before .before in
-    omega (arith, c .cap .ensures, capped-most (at-write-inside .write-inside .result .at))
-
-write-nested-returns-2 : (t : ℕ)
-    → cycle.Lts-write_nested.Need-returns-2 (write-nested-calls t) (write-nested-at t) write-nested.Post
-write-nested-returns-2 t c =
-    let at-has-room = c .before in
-    let at-placed = at-has-room .before in
-    let at-add2 = at-placed .before in
-    let at-element-size = at-add2 .before in
-    let at-cap = at-element-size .before in
-    let at-type-of = at-cap .before in
-    let at-if1 = at-type-of .before in
-    let at-out = at-if1 .before .before .before in
-    let at-write-inside = at-out .before in
-    let at-least2 = at-write-inside .before .before in
-    let at-least = at-least2 .before in
-    let at-add = at-least .before in
-    let at-args = at-add .before .before .before .before in
-    wrote-as (parts.nested-as _ (at-type-of .type-of .ensures))
-    (nested-no-room _ (at-write-inside .write-inside .ensures) _ (not-false _ (at-if1 .if1 .left))
-    (at-cap .cap .ensures) (at-element-size .element-size .ensures)
-    (at-placed .placed .ensures ∙ ap (placed (at-write-inside .write-inside .result)) (at-add2 .add2 .ensures)) _
-    (early-places (at-args .args .s .at) _ (at-add .add .ensures) (at-least .least .ensures) (at-least2 .least2 .ensures)) refl
-    (at-out .out .given .0)
-    (sym (at-has-room .has-room .ensures) ∙ not-true _ (c .if2 .taken)))
-
-write-nested-put-header-requires : (t : ℕ)
-    → cycle.Lts-write_nested.Need-put-header-requires (write-nested-calls t) (write-nested-at t) write-nested.Post
-write-nested-put-header-requires t c κs =
-    let at-if2 = c .before in
-    let at-has-room = at-if2 .before in
-    let at-element-size = at-has-room .before .before .before in
-    header-fits _ _ _ (at-element-size .element-size .ensures) _ (at-has-room .has-room .ensures) (not-false _ (at-if2 .if2 .left))
-
-write-nested-returns-3 : (t : ℕ)
-    → cycle.Lts-write_nested.Need-returns-3 (write-nested-calls t) (write-nested-at t) write-nested.Post
-write-nested-returns-3 t c =
-    let at-put-header = c .before .before .before in
-    let at-if2 = at-put-header .before .before in
-    let at-has-room = at-if2 .before in
-    let at-placed = at-has-room .before in
-    let at-add2 = at-placed .before in
-    let at-element-size = at-add2 .before in
-    let at-cap = at-element-size .before in
-    let at-type-of = at-cap .before in
-    let at-if1 = at-type-of .before in
-    let at-out = at-if1 .before .before .before in
-    let at-write-inside = at-out .before in
-    let at-least2 = at-write-inside .before .before in
-    let at-least = at-least2 .before in
-    let at-add = at-least .before in
-    let at-args = at-add .before .before .before .before in
-    wrote-as (parts.nested-as _ (at-type-of .type-of .ensures))
-    (nested-early _ (at-write-inside .write-inside .ensures) _ (not-false _ (at-if1 .if1 .left))
-    (at-cap .cap .ensures) (at-element-size .element-size .ensures)
-    (at-placed .placed .ensures ∙ ap (placed (at-write-inside .write-inside .result)) (at-add2 .add2 .ensures)) _
-    (early-places (at-args .args .s .at) _ (at-add .add .ensures) (at-least .least .ensures) (at-least2 .least2 .ensures)) refl
-    (at-out .out .given .0)
-    (sym (at-has-room .has-room .ensures) ∙ not-false _ (at-if2 .if2 .left))
-    (parts.type-short (at-args .args .container) (at-type-of .type-of .ensures))
-    (c .if3 .taken) (at-put-header .put-header .ensures))
-
-write-nested-add-end : (t : ℕ)
-    → cycle.Lts-write_nested.Need-add-end (write-nested-calls t) (write-nested-at t) write-nested.Post
-write-nested-add-end t c =
-    let at-out2 = c .before .before in
-    let at-put-header = at-out2 .before in
-    let at-if2 = at-put-header .before .before in
-    let at-has-room = at-if2 .before in
-    let at-element-size = at-has-room .before .before .before in
-    let at-out = at-element-size .before .before .before .before .before .before in
-    let at-good = at-out .before .before .before .before .before .before .before .before .before in
-    omega (
-      arith,
-      at-good .good,
-      at-out2 .out2 .given,
-      at-out .out .given .1,
-      inside-fits _ _ _
-          (at-element-size .element-size .ensures) (at-has-room .has-room .ensures)
-          (not-false _ (at-if2 .if2 .left)) (at-put-header .put-header .ensures),
-    )
-
-write-nested-sub-write-inside-2 : (t : ℕ)
-    → cycle.Lts-write_nested.Need-sub-write-inside-2 (write-nested-calls t) (write-nested-at t) write-nested.Post
-write-nested-sub-write-inside-2 t c = omega arith
-
-write-nested-part-write-inside-end-2 : (t : ℕ)
-    → cycle.Lts-write_nested.Need-part-write-inside-end-2 (write-nested-calls t) (write-nested-at t) write-nested.Post
-write-nested-part-write-inside-end-2 t c =
-    let at-put-header = c .before .before .before in
-    let at-if2 = at-put-header .before .before in
-    let at-has-room = at-if2 .before in
-    let at-element-size = at-has-room .before .before .before in
-    inside-fits _ _ _ (at-element-size .element-size .ensures) (at-has-room .has-room .ensures)
-    (not-false _ (at-if2 .if2 .left)) (at-put-header .put-header .ensures)
-
-write-nested-write-inside-requires-2 : (t : ℕ)
-    → cycle.Lts-write_nested.Need-write-inside-requires-2 (write-nested-calls t) (write-nested-at t) write-nested.Post
-write-nested-write-inside-requires-2 t c κs =
-    let far-12 = c .before .before .before .before .before .before .before .before .before .before .before .before in
-    let far-24 = far-12 .before .before .before .before .before .before .before .before .before .before .before .before in
-    let at-pre = far-24 .before in
-    (omega (arith, at-pre .pre .0), tt)
-
-write-nested-returns-4 : (t : ℕ)
-    → cycle.Lts-write_nested.Need-returns-4 (write-nested-calls t) (write-nested-at t) write-nested.Post
-write-nested-returns-4 t c =
-    let at-write-inside2 = c .before .before in
-    let at-if3 = at-write-inside2 .before .before in
-    let at-put-header = at-if3 .before .before .before in
-    let at-if2 = at-put-header .before .before in
-    let at-has-room = at-if2 .before in
-    let at-placed = at-has-room .before in
-    let at-add2 = at-placed .before in
-    let at-element-size = at-add2 .before in
-    let at-cap = at-element-size .before in
-    let at-type-of = at-cap .before in
-    let at-if1 = at-type-of .before in
-    let at-out = at-if1 .before .before .before in
-    let at-write-inside = at-out .before in
-    let at-least2 = at-write-inside .before .before in
-    let at-least = at-least2 .before in
-    let at-add = at-least .before in
-    let at-args = at-add .before .before .before .before in
-    wrote-as (parts.nested-as _ (at-type-of .type-of .ensures))
-    (nested-again _ (at-write-inside .write-inside .ensures) _ (not-false _ (at-if1 .if1 .left))
-    (at-cap .cap .ensures) (at-element-size .element-size .ensures)
-    (at-placed .placed .ensures ∙ ap (placed (at-write-inside .write-inside .result)) (at-add2 .add2 .ensures)) _
-    (early-places (at-args .args .s .at) _ (at-add .add .ensures) (at-least .least .ensures) (at-least2 .least2 .ensures)) refl
-    (at-out .out .given .0)
-    (sym (at-has-room .has-room .ensures) ∙ not-false _ (at-if2 .if2 .left))
-    (at-if3 .if3 .left) (at-put-header .put-header .ensures) refl
-    (at-write-inside2 .write-inside2 .ensures))
-
 write-node-same-length : (t : ℕ) → cycle.Lts-write_node.Need-same-length (write-node-calls t) (write-node-at t) write-node.Post
 write-node-same-length t c =
     let at-out6 = c .before in
@@ -707,10 +575,169 @@ write-node-same-length t c =
     let at-out = at-out2 .before .before .before .before in
     at-out6 .out6 .given ∙ at-out5 .out5 .given ∙ at-out4 .out4 .given ∙ at-out3 .out3 .given ∙ at-out2 .out2 .given ∙ at-out .out .given
 
-pub +write-call+write-inside+write-many+write-nested+write-node+write-part+write-pattern-edge+write-term-spec :
+attempt-add-least : (t : ℕ) → cycle.Lts-attempt.Need-add-least (attempt-calls t) (attempt-at t) attempt.Post
+attempt-add-least t c = omega (arith, c .least .ensures)
+
+attempt-sub-write-inside : (t : ℕ) → cycle.Lts-attempt.Need-sub-write-inside (attempt-calls t) (attempt-at t) attempt.Post
+attempt-sub-write-inside t c = omega (arith, c .before .least .ensures, c .least2 .ensures)
+
+attempt-part-write-inside-start : (t : ℕ) → cycle.Lts-attempt.Need-part-write-inside-start (attempt-calls t) (attempt-at t) attempt.Post
+attempt-part-write-inside-start t c = omega (arith, c .before .least .ensures)
+
+attempt-part-write-inside-end : (t : ℕ) → cycle.Lts-attempt.Need-part-write-inside-end (attempt-calls t) (attempt-at t) attempt.Post
+attempt-part-write-inside-end t c = omega (arith, c .least2 .ensures)
+
+attempt-write-inside-requires : (t : ℕ) → cycle.Lts-attempt.Need-write-inside-requires (attempt-calls t) (attempt-at t) attempt.Post
+attempt-write-inside-requires t c κs =
+    let at-pre = c .before .before .before .before .before .before .before .before in
+    (omega (arith, at-pre .pre .0), tt)
+
+attempt-returns : (t : ℕ) → cycle.Lts-attempt.Need-returns (attempt-calls t) (attempt-at t) attempt.Post
+attempt-returns t c =
+    let at-out = c .before in
+    let at-write-inside = at-out .before in
+    let at-front = at-write-inside .before in
+    let at-least2 = at-front .before .before in
+    let at-least = at-least2 .before in
+    let at-add = at-least .before in
+    let at-args = at-add .before .before .before .before in
+    wrote-early (early-places (at-args .args .s .at) _ (at-add .add .ensures) (at-least .least .ensures) (at-least2 .least2 .ensures))
+    (at-out .out .given .0) (at-front .front .ensures)
+    (at-write-inside .write-inside .ensures)
+
+write-nested-attempt-requires : (t : ℕ) → cycle.Lts-write_nested.Need-attempt-requires (write-nested-calls t) (write-nested-at t) write-nested.Post
+write-nested-attempt-requires t c κs =
+    let at-pre = c .before .before .before .before in
+    (omega (arith, at-pre .pre .0), tt)
+
+write-nested-returns : (t : ℕ) → cycle.Lts-write_nested.Need-returns (write-nested-calls t) (write-nested-at t) write-nested.Post
+write-nested-returns t c =
+    let at-attempt = c .before .before .before .before in
+    wrote-as (parts.nested-as _ refl) (nested-stopped (at-attempt .attempt .ensures) _ (not-true _ (c .if1 .taken)))
+
+write-nested-element-size-requires : (t : ℕ)
+    → cycle.Lts-write_nested.Need-element-size-requires (write-nested-calls t) (write-nested-at t) write-nested.Post
+write-nested-element-size-requires t c κs =
+    let at-attempt = c .before .before .before .before .before .before in
+    omega (arith, c .cap .ensures, capped-most (at-attempt .attempt .result .at))
+
+write-nested-returns-2 : (t : ℕ) → cycle.Lts-write_nested.Need-returns-2 (write-nested-calls t) (write-nested-at t) write-nested.Post
+write-nested-returns-2 t c =
+    let at-has-room = c .before in
+    let at-placed = at-has-room .before in
+    let at-add = at-placed .before in
+    let at-element-size = at-add .before in
+    let at-cap = at-element-size .before in
+    let at-type-of = at-cap .before in
+    let at-if1 = at-type-of .before in
+    let at-attempt = at-if1 .before .before .before .before in
+    wrote-as (parts.nested-as _ (at-type-of .type-of .ensures))
+    (nested-no-room (at-attempt .attempt .ensures) _ (not-false _ (at-if1 .if1 .left))
+    (at-cap .cap .ensures) (at-element-size .element-size .ensures)
+    (at-placed .placed .ensures ∙ ap (placed (at-attempt .attempt .result)) (at-add .add .ensures))
+    (sym (at-has-room .has-room .ensures) ∙ not-true _ (c .if2 .taken)))
+
+write-nested-put-header-requires : (t : ℕ)
+    → cycle.Lts-write_nested.Need-put-header-requires (write-nested-calls t) (write-nested-at t) write-nested.Post
+write-nested-put-header-requires t c κs =
+    let at-if2 = c .before in
+    let at-has-room = at-if2 .before in
+    let at-element-size = at-has-room .before .before .before in
+    header-fits _ _ _ (at-element-size .element-size .ensures) _ (at-has-room .has-room .ensures) (not-false _ (at-if2 .if2 .left))
+
+write-nested-returns-3 : (t : ℕ) → cycle.Lts-write_nested.Need-returns-3 (write-nested-calls t) (write-nested-at t) write-nested.Post
+write-nested-returns-3 t c =
+    let at-put-header = c .before .before .before in
+    let at-if2 = at-put-header .before .before in
+    let at-has-room = at-if2 .before in
+    let at-placed = at-has-room .before in
+    let at-add = at-placed .before in
+    let at-element-size = at-add .before in
+    let at-cap = at-element-size .before in
+    let at-type-of = at-cap .before in
+    let at-if1 = at-type-of .before in
+    let at-attempt = at-if1 .before .before .before .before in
+    let at-args = at-attempt .before .before .before .before .before in
+    wrote-as (parts.nested-as _ (at-type-of .type-of .ensures))
+    (nested-early (at-attempt .attempt .ensures) _ (not-false _ (at-if1 .if1 .left)) (at-cap .cap .ensures) (at-element-size .element-size .ensures)
+    (at-placed .placed .ensures ∙ ap (placed (at-attempt .attempt .result)) (at-add .add .ensures))
+    (sym (at-has-room .has-room .ensures) ∙ not-false _ (at-if2 .if2 .left))
+    (parts.type-short (at-args .args .container) (at-type-of .type-of .ensures))
+    (c .if3 .taken) (at-put-header .put-header .ensures))
+
+write-nested-add-end : (t : ℕ) → cycle.Lts-write_nested.Need-add-end (write-nested-calls t) (write-nested-at t) write-nested.Post
+write-nested-add-end t c =
+    let at-out2 = c .before .before in
+    let at-put-header = at-out2 .before in
+    let at-if2 = at-put-header .before .before in
+    let at-has-room = at-if2 .before in
+    let at-element-size = at-has-room .before .before .before in
+    let at-out = at-element-size .before .before .before .before .before .before in
+    let at-good = at-out .before .before .before .before .before .before in
+    omega (
+      arith,
+      at-good .good,
+      at-out2 .out2 .given,
+      at-out .out .given,
+      inside-fits _ _ _ (at-element-size .element-size .ensures) (at-has-room .has-room .ensures)
+          (not-false _ (at-if2 .if2 .left)) (at-put-header .put-header .ensures),
+    )
+
+write-nested-sub-write-inside : (t : ℕ) → cycle.Lts-write_nested.Need-sub-write-inside (write-nested-calls t) (write-nested-at t) write-nested.Post
+write-nested-sub-write-inside t c = omega arith
+
+write-nested-part-write-inside-end : (t : ℕ)
+    → cycle.Lts-write_nested.Need-part-write-inside-end (write-nested-calls t) (write-nested-at t) write-nested.Post
+write-nested-part-write-inside-end t c =
+    let at-put-header = c .before .before .before in
+    let at-if2 = at-put-header .before .before in
+    let at-has-room = at-if2 .before in
+    let at-element-size = at-has-room .before .before .before in
+    inside-fits _ _ _ (at-element-size .element-size .ensures) (at-has-room .has-room .ensures)
+    (not-false _ (at-if2 .if2 .left)) (at-put-header .put-header .ensures)
+
+write-nested-write-inside-requires : (t : ℕ)
+    → cycle.Lts-write_nested.Need-write-inside-requires (write-nested-calls t) (write-nested-at t) write-nested.Post
+write-nested-write-inside-requires t c κs =
+    let far-12 = c .before .before .before .before .before .before .before .before .before .before .before .before in
+    let at-pre = far-12 .before .before .before .before .before .before .before .before .before .before .before in
+    (omega (arith, at-pre .pre .0), tt)
+
+write-nested-returns-4 : (t : ℕ) → cycle.Lts-write_nested.Need-returns-4 (write-nested-calls t) (write-nested-at t) write-nested.Post
+write-nested-returns-4 t c =
+    let at-write-inside = c .before .before in
+    let at-front = at-write-inside .before in
+    let at-if3 = at-front .before .before in
+    let at-put-header = at-if3 .before .before .before in
+    let at-if2 = at-put-header .before .before in
+    let at-has-room = at-if2 .before in
+    let at-placed = at-has-room .before in
+    let at-add = at-placed .before in
+    let at-element-size = at-add .before in
+    let at-cap = at-element-size .before in
+    let at-type-of = at-cap .before in
+    let at-if1 = at-type-of .before in
+    let at-attempt = at-if1 .before .before .before .before in
+    wrote-as (parts.nested-as _ (at-type-of .type-of .ensures))
+    (nested-again (at-attempt .attempt .ensures) _ (not-false _ (at-if1 .if1 .left)) (at-cap .cap .ensures) (at-element-size .element-size .ensures)
+    (at-placed .placed .ensures ∙ ap (placed (at-attempt .attempt .result)) (at-add .add .ensures))
+    (sym (at-has-room .has-room .ensures) ∙ not-false _ (at-if2 .if2 .left))
+    (at-if3 .if3 .left) (at-put-header .put-header .ensures) refl
+    (at-front .front .ensures) (at-write-inside .write-inside .ensures))
+
+write-nested-same-length-4 : (t : ℕ) → cycle.Lts-write_nested.Need-same-length-4 (write-nested-calls t) (write-nested-at t) write-nested.Post
+write-nested-same-length-4 t c =
+    let at-out3 = c .before in
+    let at-out2 = at-out3 .before .before .before .before .before .before in
+    let far-19 = at-out2 .before .before .before .before .before .before .before .before .before .before .before .before in
+    let at-out = far-19 .before in
+    at-out3 .out3 .given .1 ∙ at-out2 .out2 .given ∙ at-out .out .given
+
+pub +attempt+write-call+write-inside+write-many+write-nested+write-node+write-part+write-pattern-edge+write-term-spec :
     {M : Type 1} → statement M
-+write-call+write-inside+write-many+write-nested+write-node+write-part+write-pattern-edge+write-term-spec =
++attempt+write-call+write-inside+write-many+write-nested+write-node+write-part+write-pattern-edge+write-term-spec =
     close
+    μ-attempt
     μ-write-call
     μ-write-inside
     μ-write-many
@@ -719,6 +746,19 @@ pub +write-call+write-inside+write-many+write-nested+write-node+write-part+write
     μ-write-part
     μ-write-pattern-edge
     μ-write-term
+    (λ t. cycle.Lts-attempt.spec (attempt-calls t) (attempt-at t)
+    attempt.Post
+    (λ c κs. search needs)
+    (λ c κs. search needs)
+    (attempt-add-least t)
+    (λ c κs. search needs)
+    (attempt-sub-write-inside t)
+    (attempt-part-write-inside-start t)
+    (attempt-part-write-inside-end t)
+    (λ c κs. search needs)
+    (attempt-write-inside-requires t)
+    (λ c. search needs)
+    (attempt-returns t))
     (λ t. cycle.Lts-write_call.spec (write-call-calls t) (write-call-at t)
     write-call.Post
     (λ c κs. search needs)
@@ -771,14 +811,7 @@ pub +write-call+write-inside+write-many+write-nested+write-node+write-part+write
     (write-many-returns-2 t))
     (λ t. cycle.Lts-write_nested.spec (write-nested-calls t) (write-nested-at t)
     write-nested.Post
-    (λ c κs. search needs)
-    (λ c κs. search needs)
-    (write-nested-add-least t)
-    (λ c κs. search needs)
-    (write-nested-sub-write-inside t)
-    (write-nested-part-write-inside-start t)
-    (write-nested-part-write-inside-end t)
-    (write-nested-write-inside-requires t)
+    (write-nested-attempt-requires t)
     (λ c. search needs)
     (write-nested-returns t)
     (λ c κs. search needs)
@@ -794,11 +827,12 @@ pub +write-call+write-inside+write-many+write-nested+write-node+write-part+write
     (λ c. search needs)
     (write-nested-returns-3 t)
     (write-nested-add-end t)
-    (write-nested-sub-write-inside-2 t)
+    (write-nested-sub-write-inside t)
     (λ c. search needs)
-    (write-nested-part-write-inside-end-2 t)
-    (write-nested-write-inside-requires-2 t)
-    (λ c. search needs)
+    (write-nested-part-write-inside-end t)
+    (λ c κs. search needs)
+    (write-nested-write-inside-requires t)
+    (write-nested-same-length-4 t)
     (write-nested-returns-4 t))
     (λ t. cycle.Lts-write_node.spec (write-node-calls t) (write-node-at t)
     write-node.Post
