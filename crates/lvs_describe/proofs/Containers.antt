@@ -1,14 +1,15 @@
 -- A container's part of the description, from the parts of what it holds, put one behind the other. Assumes nothing.
-use mathlib.Core.Path.{_≡_, subst}
+use mathlib.Core.Path.{_≡_, refl, ap, subst, _∙_}
 use mathlib.Core.Bool.{true, false}
-use mathlib.Core.List.{List}
+use mathlib.Core.List.{List, []}
 use Prim.Native.Nat.{ℕ, _-_, _≤_, _<_}
 use native.Mathlib.Omega.{arith}
 use borrow.Author.Tests.{ne-eqb}
-use lib.ListN.{length, drop, length-drop}
-use lib.Seq.{take-all}
+use lib.ListN.{length, take, drop, length-drop, drop-of-length-le}
+use lib.Seq.{take-all, take-nil}
 use Rattle.tlv.specs.Lists.{first}
-use Rattle.tlv.specs.Fields.{InsideOf, numberOf, integers, theInteger, theInside}
+use Rattle.tlv.specs.Element.{element, cutsBy, cuts}
+use Rattle.tlv.specs.Fields.{InsideOf, eachCut, numberOf, integers, theInteger, theInside}
 use Rattle.tlv.specs.declared.Part.{Part}
 use Rattle.lvs_spec.specs.Types as type
 use Rattle.lvs_spec.specs.Leaves.{marked}
@@ -17,7 +18,7 @@ use Rattle.lvs_edges.specs.Crossing.{FieldsOf}
 use Rattle.lvs_edges.specs.declared.PatternFields.{PatternFields}
 use Rattle.lvs_description.specs.Format.{Lists, put, putText, Format, integer, text, component, _then_, maybe, many}
 use Rattle.lvs_description.specs.Description.{argument, call, valueEdge, patternEdge, node, symbol, listsOf}
-use Rattle.lvs_describe.specs.Parts.{nothing, number, shown}
+use Rattle.lvs_describe.specs.Parts.{nothing, number, shown, row}
 use Rattle.lvs_describe.specs.Lent.{State, Describes}
 use Rattle.lvs_describe.specs.Found.{part, ComponentAt, heldBy, ArgumentAt}
 use Rattle.lvs_describe.specs.Sorts.{own, termOf, itemOf, itemsOf, rowOf}
@@ -46,6 +47,11 @@ module _ {s s′ : State} where
   row-puts : {A : Type 0} {k : Sort} {f : Format A} {of : List ℕ → List A} → Row k f of → (b : List ℕ) → Describes (rowOf k b) s s′
       → Puts (many f) (of b) s s′
   row-puts R b d = record { described = subst (λ (l : Lists). Describes l s s′) (R .is b) d }
+
+-- in no bytes there is none
+row-empty : (k : Sort) → rowOf k [] ≡ number 0
+unfolding rowOf row itemsOf eachCut cuts cutsBy element
+row-empty k = refl
 
 -- behind a number
 numbered-then : {A B : Type 0} (f : Format A) {g : Format B} (a : A) {b : B} (n : ℕ) {s s′ s″ : State} → Appended f → Describes (put n (shown f a)) s s′
@@ -109,6 +115,13 @@ module _ (b : List ℕ) {s s₁ s₂ : State} where
       let from : part b (f .rest) (length b) ≡ drop (f .rest) b =
       take-all (length b - f .rest) (drop (f .rest) b) (simp length-drop (omega arith)) in
       rw (← F .destination, ← F .tag-is, ← F .constraints, ← from) (describes-then d (row-puts constraints-are _ g .described))
+
+  -- nothing stands behind the fields
+  pub plain-edge-put : {f : PatternFields} → FieldsOf b f → Describes (put (f .dest) (number (f .tag))) s s₁ → length b ≤ f .rest
+      → Describes (number 0) s₁ s₂ → Describes (shown patternEdge (patternEdgeOf b)) s s₂
+  plain-edge-put {f} F d h g =
+      let none : part b (f .rest) (length b) ≡ [] = ap (take (length b - f .rest)) (drop-of-length-le b h) ∙ take-nil (length b - f .rest) in
+      pattern-edge-put F d (rw (none, row-empty sort.Constraint) g)
 
   module _ {s₃ : State} where
     pub model-put : {n c : ℕ} → n ≡ theInteger type.NodeId b → c ≡ theInteger type.NamedPatternCnt b → Describes (put n (number c)) s s₁

@@ -143,7 +143,7 @@ fn put_node(b: &[u8], numbers: &mut [u64], texts: &mut [u8], room: Room) -> Room
     put_counted(b, Sort::Signer, count.signers, numbers, texts, patterns)
 }
 
-// Its Constraints are looked for behind the fields that are read already.
+// Its Constraints are looked for behind the fields that are read already, where there is anything.
 fn put_pattern_edge(b: &[u8], numbers: &mut [u64], texts: &mut [u8], room: Room) -> Room
     ensures { λ r.
         ⌜
@@ -154,6 +154,9 @@ fn put_pattern_edge(b: &[u8], numbers: &mut [u64], texts: &mut [u8], room: Room)
     let fields = lvs_edges::pattern_fields(b);
     let from = fields.rest;
     let rest = put_pair(fields.dest, fields.tag, numbers, room);
+    if b.len() <= from {
+        return put_number(0, numbers, rest);
+    }
     put_row(&b[from..], Sort::Constraint, numbers, texts, rest)
 }
 

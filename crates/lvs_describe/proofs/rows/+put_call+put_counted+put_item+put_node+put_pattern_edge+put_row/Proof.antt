@@ -12,7 +12,7 @@ use Rattle.tlv.proofs.Gathered.{stop-end, stop-malformed}
 use Rattle.lvs_describe.specs.Lent.{state}
 use Rattle.lvs_describe.proofs.Loops.{item-found, item-other, items-stop}
 use Rattle.lvs_describe.proofs.Walked.{Walked, walk-first, walk-past, walk-item, walk-end, walk-none}
-use Rattle.lvs_describe.proofs.Containers.{call-put, pattern-edge-put, node-put, node-item, symbol-item, parent-item, name-item, value-edge-item}
+use Rattle.lvs_describe.proofs.Containers.{call-put, plain-edge-put, pattern-edge-put, node-put, node-item, symbol-item, parent-item, name-item, value-edge-item}
 use Rattle.lvs_describe.proofs.Containers.{pattern-edge-item, signer-item, constraint-item, option-item, value-item, tag-item, call-item, argument-item}
 use Rattle.lvs_describe.proofs.rows.put_call.Reads as put-call
 use Rattle.lvs_describe.proofs.rows.put_call.Kinds as put-call-kinds
@@ -340,6 +340,8 @@ put-pattern-edge-calls t = (
   pattern-fields-reads.Learnt,
   put-pair-reads.Asked,
   put-pair-reads.Learnt,
+  put-number-reads.Asked,
+  put-number-reads.Learnt,
   put-row-below t,
   put-row.Post,
 )
@@ -352,21 +354,29 @@ put-pattern-edge-need N t = N (put-pattern-edge-calls t) (put-pattern-edge-at t)
 abbrev fields : (t : ℕ) → put-pattern-edge-need edge-lts.After-slice-known3 t → put-pattern-edge-need edge-lts.After-pattern-fields t
 fields t c = c .before .before .before .before
 
+put-pattern-edge-returns : (t : ℕ) → put-pattern-edge-need edge-lts.Need-returns t
+put-pattern-edge-returns t c =
+    let none = c .before .before in
+    let test = none .before .before in
+    let known = test .before in
+    plain-edge-put _ (fields t known .pattern-fields .ensures) (known .before .before .put-pair .ensures _) (test .if1 .taken)
+    (none .put-number .ensures _)
+
 put-pattern-edge-sub-put-row : (t : ℕ) → put-pattern-edge-need edge-lts.Need-sub-put-row t
-put-pattern-edge-sub-put-row t c = fields t c .pattern-fields .ensures .within
+put-pattern-edge-sub-put-row t c = fields t (c .before) .pattern-fields .ensures .within
 
 put-pattern-edge-part-put-row-start : (t : ℕ) → put-pattern-edge-need edge-lts.Need-part-put-row-start t
-put-pattern-edge-part-put-row-start t c = fields t c .pattern-fields .ensures .within
+put-pattern-edge-part-put-row-start t c = fields t (c .before) .pattern-fields .ensures .within
 
 put-pattern-edge-put-row-requires : (t : ℕ) → put-pattern-edge-need edge-lts.Need-put-row-requires t
 put-pattern-edge-put-row-requires t c κs =
-    let edge = fields t (c .before .before .before) .before .before .before .before in
+    let edge = fields t (c .before .before .before .before) .before .before .before .before in
     (simp (length-take, length-drop) (omega (arith, edge .pre .0)), tt)
 
-put-pattern-edge-returns : (t : ℕ) → put-pattern-edge-need edge-lts.Need-returns t
-put-pattern-edge-returns t c =
+put-pattern-edge-returns-2 : (t : ℕ) → put-pattern-edge-need edge-lts.Need-returns-2 t
+put-pattern-edge-returns-2 t c =
     let constraints = c .before .before .before .before in
-    let known = constraints .before .before .before .before in
+    let known = constraints .before .before .before .before .before in
     pattern-edge-put _ (fields t known .pattern-fields .ensures) (known .before .before .put-pair .ensures _) (constraints .put-row .ensures)
 
 -- ---- put_counted
@@ -607,13 +617,16 @@ pub +put-call+put-counted+put-item+put-node+put-pattern-edge+put-row-spec : {M :
     put-pattern-edge.Post
     (λ c κs. search needs)
     (λ c κs. search needs)
+    (λ c κs. search needs)
+    (λ c. search needs)
+    (put-pattern-edge-returns t)
     (put-pattern-edge-sub-put-row t)
     (put-pattern-edge-part-put-row-start t)
     (λ c. search needs)
     (put-pattern-edge-put-row-requires t)
     (λ c. search needs)
     (λ c. search needs)
-    (put-pattern-edge-returns t))
+    (put-pattern-edge-returns-2 t))
     λ t. put-row-lts.spec (put-row-calls t)
     (put-row-at t)
     put-row.Post
