@@ -12,7 +12,8 @@ use Rattle.tlv.proofs.Gathered.{stop-end, stop-malformed}
 use Rattle.lvs_describe.specs.Lent.{state}
 use Rattle.lvs_describe.proofs.Loops.{item-found, item-other, items-stop}
 use Rattle.lvs_describe.proofs.Walked.{Walked, walk-first, walk-past, walk-item, walk-end, walk-none}
-use Rattle.lvs_describe.proofs.Containers.{call-put, plain-edge-put, pattern-edge-put, node-put, node-item, symbol-item, parent-item, name-item, value-edge-item}
+use Rattle.lvs_describe.proofs.Containers.{call-put, plain-edge-put, pattern-edge-put, node-put}
+use Rattle.lvs_describe.proofs.Containers.{node-item, symbol-item, parent-item, name-item, value-edge-item}
 use Rattle.lvs_describe.proofs.Containers.{pattern-edge-item, signer-item, constraint-item, option-item, value-item, tag-item, call-item, argument-item}
 use Rattle.lvs_describe.proofs.rows.put_call.Reads as put-call
 use Rattle.lvs_describe.proofs.rows.put_call.Kinds as put-call-kinds
