@@ -93,7 +93,7 @@ WritesNumbers f ns before now s r = (ts : List ℕ) → Writes f ns ts before no
 unfoldable pub headerBytes : ℕ → ℕ → List ℕ
 headerBytes t n = numberBytes t ++ numberBytes n
 
--- an element of type t
+-- the bytes of an element of type t, with the inside i
 abbrev pub el : ℕ → List ℕ → List ℕ
 el t i = elementBytes (record { type = t; inside = i })
 

@@ -78,8 +78,8 @@ fn write_part(part: Part, numbers: &[u64], texts: &[u8], out: &mut [u8], s: Curs
     }
 }
 
-// A container: the inside in its place behind the header, and where that is depends on how many bytes there are. It is written where it begins
-// nearly always; if it has more bytes, again behind the longer header, over all that was put too early.
+// A container. Where its inside belongs depends on the header, and that on how many bytes there are. So it is first written behind a header of two
+// bytes, where nearly all belong; one with more bytes is written again behind its longer header, over all that was put too early.
 fn write_nested(
     container: Container,
     numbers: &[u64],
@@ -111,8 +111,7 @@ fn write_nested(
     next
 }
 
-// The inside of the container at s where it stands if its header has two bytes, with room for as much as such a header can say. Whoever goes on
-// from here puts the header, or writes the inside again.
+// The inside of the container at s, behind a header of two bytes that is still to be put, and lent only as many bytes as such a header can say.
 fn attempt(container: Container, numbers: &[u64], texts: &[u8], out: &mut [u8], s: Cursor) -> Cursor
     ensures { λ r.
         ⌜
