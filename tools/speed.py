@@ -1,7 +1,7 @@
 #!/usr/bin/env python3
 """The speed of lvs_cases and of the reference checker (reference/, in Rust, release build) on the same cases, and the ratios.
 
-usage: speed.py [WORD..]    only the rows whose name has one of the words; none: all, in about four minutes
+usage: speed.py [WORD..]    only the rows whose name has one of the words; none: all, in about twelve minutes
 
 A case is run many times by both programs. What reading and printing it costs is taken off: the same run with a model of the same length
 whose first byte is wrong, which both refuse at once; of a description to write, the same with a number that makes it none, near its front. Instructions are counted by valgrind --tool=callgrind. The ratio of the times is
