@@ -1,4 +1,5 @@
--- Elements that hold plain bytes: their sizes, their places, and what was taken off the lists for them. Assumes nothing.
+-- Elements whose size is known from a few numbers: their sizes, their places, and what was taken off the lists for them; and the inside of any
+-- element, written into a part that was lent. Assumes nothing.
 use mathlib.Core.Path.{_≡_, refl, sym, ap, subst, _∙_}
 use mathlib.Core.Bool.{Bool, true, false, cond}
 use mathlib.Core.List.{List, _∷_, _++_}
