@@ -5,12 +5,12 @@ use mathlib.Core.Bool.{Bool, true, false, cond, _&&_}
 use mathlib.Core.List.{List, [], _∷_, foldl}
 use mathlib.Core.Option.{Option, none, some, Option·some-injective}
 use native.Mathlib.Omega.{arith}
-use borrow.Author.Tests.{eq-eqb, ne-eqb, le-leb, lt-leb, lt-ltb, le-ltb, eqb-true}
-use lib.Dec.{eqb}
+use borrow.Author.Tests.{eq-eqb, ne-eqb, le-leb, lt-leb, lt-ltb, le-ltb, ltb-false, eqb-true}
+use lib.Dec.{eqb, ltb}
 use lib.ListN.{length, take, drop, length-drop}
 use lib.Seq.{length-take-le, take-all}
 use Rattle.tlv.specs.Bytes.{Bytes}
-use Rattle.tlv.specs.Element.{Element, First, end, malformed, first, element, Cuts, done, broken, next, cuts, elementBytes}
+use Rattle.tlv.specs.Element.{Element, First, end, malformed, first, element, Cuts, done, broken, next, cuts, pieces, elementBytes}
 use Rattle.tlv.specs.declared.Place.{Place}
 use Rattle.tlv.proofs.Cuts.{Step, element-whole}
 use Rattle.tlv.proofs.RoundTrip.{step-size}
@@ -21,6 +21,7 @@ use Rattle.lvs_spec.specs.Types as type
 use Rattle.lvs_spec.specs.Leaves.{isComponent}
 use Rattle.lvs_spec.specs.Model.{componentFrom, componentOf}
 use Rattle.lvs_spec.specs.Names.{Component, componentsAt, nameFrom, nameOf, badName, goodName, rowReading, nameReading}
+use Rattle.lvs_spec.proofs.Lists.{clash}
 use Rattle.lvs_names.specs.Rows.{rowAt, rowFrom}
 use Rattle.lvs_names.specs.Answers.{headerFrom, headerOf, countedFrom, countOf}
 use Rattle.lvs_names.specs.Contents.{ContentOf, RowStep}
@@ -60,14 +61,8 @@ module _ {b : List ℕ} {typ start stop : ℕ} {p : Place} (f : Step b 0 typ sta
 
 -- ---- counting
 
--- the elements of a list, and `none` where it breaks off
-unfoldable pub marked : Cuts → List (Option Element)
-marked done = []
-marked broken = none ∷ []
-marked (next e rest) = some e ∷ marked rest
-
 abbrev pub marks : List ℕ → List (Option Element)
-marks b = marked (cuts b)
+marks b = pieces (cuts b)
 
 -- a count, and one of them more
 unfoldable pub counts : Counted → Option Element → Counted
@@ -80,20 +75,20 @@ unfolding counts
 no-count [] = refl
 no-count (x ∷ xs) = no-count xs
 
-counted-marks : (n at : ℕ) (c : Cuts) → foldl counts (Components n) (marked c) ≡ countedFrom n (componentsAt at c)
-unfolding marked counts countedFrom componentsAt
+counted-marks : (n at : ℕ) (c : Cuts) → foldl counts (Components n) (pieces c) ≡ countedFrom n (componentsAt at c)
+unfolding pieces counts countedFrom componentsAt
 counted-marks n at done = ap Components (omega arith)
 counted-marks n at broken = refl
 counted-marks n at (next e rest) =
     go (isComponent e) (componentsAt (at + length (elementBytes e)) rest) (λ m. counted-marks m (at + length (elementBytes e)) rest)
   where
-    go : (t : Bool) (o : Option (List Component)) → ((m : ℕ) → foldl counts (Components m) (marked rest) ≡ countedFrom m o)
-        → foldl counts (cond t (Components (n + 1)) Malformed) (marked rest)
+    go : (t : Bool) (o : Option (List Component)) → ((m : ℕ) → foldl counts (Components m) (pieces rest) ≡ countedFrom m o)
+        → foldl counts (cond t (Components (n + 1)) Malformed) (pieces rest)
         ≡ countedFrom n (bind o λ cs. guard t (record { start = at; size = length (elementBytes e); content = e } ∷ cs))
     go true none ih = ih (n + 1)
     go true (some cs) ih = ih (n + 1) ∙ ap Components (omega arith)
-    go false none ih = no-count (marked rest)
-    go false (some cs) ih = no-count (marked rest)
+    go false none ih = no-count (pieces rest)
+    go false (some cs) ih = no-count (pieces rest)
 
 module _ {name : List ℕ} {from at n : ℕ} (inv : GatheredFrom (folded counts (Components 0)) marks name from at (Components n)) where
   answer : {r : Counted} → r ≡ foldl counts (Components 0) (marks (drop from name)) → r ≡ countOf name from
@@ -102,7 +97,7 @@ module _ {name : List ℕ} {from at n : ℕ} (inv : GatheredFrom (folded counts 
 
   module _ {typ start stop : ℕ} {p : Place} (st : Step name at typ start stop p) where
     mark-found : marks (drop at name) ≡ some (record { type = typ; inside = take (stop - start) (drop start name) }) ∷ marks (drop (p .at) name)
-    unfolding marked
+    unfolding pieces
     mark-found = rw (st .cut-is)
 
     pub count-large : maxComponentType < typ → Malformed ≡ countOf name from
@@ -114,11 +109,11 @@ module _ {name : List ℕ} {from at n : ℕ} (inv : GatheredFrom (folded counts 
     count-one h = took inv mark-found (rw (le-leb typ maxComponentType h))
 
   pub count-none : cuts (drop at name) ≡ done → Components n ≡ countOf name from
-  unfolding marked
+  unfolding pieces
   count-none e = answer (ended inv (rw e))
 
   pub count-broken : cuts (drop at name) ≡ broken → Malformed ≡ countOf name from
-  unfolding marked counts
+  unfolding pieces counts
   count-broken e = answer (settled inv {x = none} {rest = []} (rw e) refl (λ y. refl))
 
 -- ---- a component that a slice begins with
@@ -269,3 +264,36 @@ module _ (b : List ℕ) where
                 let y : n ≡ 0 + length cs = cc in
                 counted-is (some cs) p .1 ∙
                 rw (le-ltb maxComponents (length cs) (omega arith)) (ap goodName (sym (row-same (headerOf b) (cuts (drop (headerOf b) b)) cs p)))
+
+  -- what a good name says
+  module _ (base : ℕ) {cs : List Component} (good : nameReading base b ≡ goodName cs) where
+    pub good-short : length b ≤ maxNameBytes
+    unfolding nameReading
+    good-short = go (ltb maxNameBytes (length b)) refl
+      where
+        go : (t : Bool) → ltb maxNameBytes (length b) ≡ t → length b ≤ maxNameBytes
+        go true p = let h : badName base ≡ goodName cs = rw p at good in clash (cc)
+        go false p = ltb-false maxNameBytes (length b) p
+
+    good-some : nameOf b ≡ some cs
+    unfolding rowReading
+    good-some = go (nameOf b) refl
+      where
+        few : (ds : List Component) (t : Bool) → cond t (badName (base + 2)) (goodName ds) ≡ goodName cs → some ds ≡ some cs
+        few ds true h = clash (cc)
+        few ds false h = cc
+
+        go : (o : Option (List Component)) → nameOf b ≡ o → o ≡ some cs
+        go none p = let h : badName (base + 1) ≡ goodName cs = sym (named base good-short p) ∙ good in clash (cc)
+        go (some ds) p = few ds (ltb maxComponents (length ds)) (sym (named base good-short p) ∙ good)
+
+    -- its components start behind its header
+    pub good-row : {h : ℕ} {e : Element} → element b ≡ first h e [] → goodName (rowFrom b h) ≡ nameReading base b
+    unfolding headerOf headerFrom rowFrom
+    good-row {h} {e} p = go (eqb (e .type) type.Name && eqb (length {A = ℕ} []) 0) (rw p)
+      where
+        go : (t : Bool) → headerOf b ≡ cond t h 0 → goodName (rowFrom b h) ≡ nameReading base b
+        go true q =
+            let n = header-name (omega (arith, q, element-whole b h e [] p .some)) in
+            ap goodName (row-same h (cuts (drop h b)) cs (sym (rw q at n) ∙ good-some)) ∙ sym good
+        go false q = let n : none ≡ some cs = sym (no-header q) ∙ good-some in clash (cc)

@@ -64,6 +64,12 @@ cutsBy (suc k) b = after (element b) (λ rest. cutsBy k rest)
 unfoldable pub cuts : List ℕ → Cuts
 cuts b = cutsBy (suc (length b)) b
 
+-- the elements, and `none` for a rest that no element begins
+unfoldable pub pieces : Cuts → List (Option Element)
+pieces done = []
+pieces broken = none ∷ []
+pieces (next e rest) = some e ∷ pieces rest
+
 -- one element more in front
 abbrev pub also : Element → Option (List Element) → Option (List Element)
 also e none = none
