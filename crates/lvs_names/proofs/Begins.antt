@@ -6,13 +6,13 @@ use mathlib.Core.List.{List, [], _++_, append-nil}
 use native.Mathlib.Omega.{arith}
 use borrow.Author.Tests.{eq-eqb, eqb-true, leb-true}
 use lib.Dec.{eqb, leb}
-use lib.ListN.{length, take, drop, length-append, take-append-drop}
-use lib.Seq.{take-append-seam}
+use lib.ListN.{length, take, drop, length-append, length-drop, take-append-drop}
+use lib.Seq.{take-append-seam, length-take-le}
 use Rattle.tlv.specs.Bytes.{Bytes, sameBytes}
 use Rattle.tlv.specs.Element.{Element, First, end, malformed, first, element, typeInRange, elementBytes}
 use Rattle.tlv.specs.declared.Place.{Place}
 use Rattle.tlv.proofs.Bytes.{bytes-drop, same-refl, same-true}
-use Rattle.tlv.proofs.Cuts.{Step, element-whole}
+use Rattle.tlv.proofs.Cuts.{Step, Whole, element-whole}
 use Rattle.tlv.proofs.RoundTrip.{element-back, element-bytes, element-fits, step-size}
 use Rattle.lvs_spec.proofs.Grammar.{both}
 use Rattle.lvs_spec.specs.Model.{componentFrom, componentOf}
@@ -85,7 +85,7 @@ module _ (s c : List ℕ) (bytes : Bytes s) (bytes-c : Bytes c) (one : Alone c) 
       go false false p q = refl
       go false true p q = sym p ∙ ap (λ (x : List ℕ). sameBytes x c) (begins q .1) ∙ same-refl c
 
--- the component at a place, cut out
+-- the element at a place, cut out
 module _ {s : List ℕ} {at t start stop : ℕ} {n : Place} (bytes : Bytes s) (f : Step s at t start stop n) where
   abbrev here : Element
   here = record { type = t; inside = take (stop - start) (drop start s) }
@@ -93,21 +93,35 @@ module _ {s : List ℕ} {at t start stop : ℕ} {n : Place} (bytes : Bytes s) (f
   bytes-at : Bytes (drop at s)
   bytes-at = bytes-drop at s bytes
 
-  cut-is : take (stop - at) (drop at s) ≡ elementBytes here
+  pub cut-is : take (stop - at) (drop at s) ≡ elementBytes here
   cut-is = take-of (drop at s) (elementBytes here) (drop stop s) (stop - at) (element-bytes (drop at s) bytes-at (f .first-is)) (step-size bytes f)
     where
       take-of : (b x r : List ℕ) (k : ℕ) → x ++ r ≡ b → length x ≡ k → take k b ≡ x
       take-of b x r k p q = rw (← p, ← q) (take-append-seam x r)
 
-  cut-element : (k : ℕ) × (element (take (stop - at) (drop at s)) ≡ first k here [])
+  -- its header is as long as it was
+  pub cut-element : element (take (stop - at) (drop at s)) ≡ first (start - at) here []
   cut-element =
+      let b = take (stop - at) (drop at s) in
       let k = element-back here [] (element-fits (drop at s) bytes-at (f .first-is)) in
-      (k .0, ap element (cut-is ∙ sym (append-nil (elementBytes here))) ∙ k .1)
+      let e : element b ≡ first (k .0) here [] = ap element (cut-is ∙ sym (append-nil (elementBytes here))) ∙ k .1 in
+      e ∙ ap (λ (h : ℕ). first h here []) (same-header (k .0) (element-whole b (k .0) here [] e))
+    where
+      part-length : (a z : ℕ) (s : List ℕ) → a ≤ z → z ≤ length s → length (take (z - a) (drop a s)) ≡ z - a
+      part-length a z s o w = length-take-le (z - a) (drop a s) (omega (arith, length-drop a s))
+
+      same-header : (h : ℕ) → Whole (take (stop - at) (drop at s)) h here [] → h ≡ start - at
+      same-header h w =
+          let b = take (stop - at) (drop at s) in
+          let size : length b ≡ stop - at = ap length cut-is ∙ step-size bytes f in
+          let inside : w .size ≡ stop - start = sym (w .inside-length) ∙ part-length start stop s (f .order) (f .within) in
+          let ends : length b - (h + w .size) ≡ 0 = sym (length-drop (h + w .size) b) ∙ ap length (sym (w .rest-is)) in
+          omega (arith, size, inside, ends, w .within, f .before, f .order)
 
   pub cut-content : componentOf (take (stop - at) (drop at s)) ≡ componentOf (drop at s)
   unfolding componentOf componentFrom
-  cut-content = rw (f .first-is, cut-element .1)
+  cut-content = rw (f .first-is, cut-element)
 
   pub cut-alone : Alone (take (stop - at) (drop at s))
   unfolding componentOf componentFrom
-  cut-alone = record { header = cut-element .0; is = cut-element .1 ∙ rw (cut-element .1) }
+  cut-alone = record { header = start - at; is = cut-element ∙ rw cut-element }

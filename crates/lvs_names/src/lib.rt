@@ -13,6 +13,11 @@ ghost use Rattle.lvs_names.specs.Contents.{ContentOf, Alone, ComponentAt
 use tlv::Place;
 use tlv::Read;
 
+// The first refusals of a packet name and of a key name.
+pub const PACKET_REFUSALS: u32 = 21;
+
+pub const KEY_REFUSALS: u32 = 24;
+
 const NAME: u32 = 7;
 
 pub enum NameRead {
@@ -41,7 +46,7 @@ pub struct Content {
 }
 
 // A name; `first` is its refusal for a name that is too long, and the next two are those for a malformed one and for too many components.
-// A layer below: any bytes may be the name; `requires` is about `first`, which the calls of `lvs` give as a constant.
+// A layer below: any bytes may be the name; `requires` is about `first`, which is one of the constants above.
 pub fn read_name(name: &[u8], first: u32) -> NameRead
     requires { ⌜ first ≤ 24 ⌝ }
     ensures { λ r. ⌜ nameRead (now (name .entry)) r ≡ nameReading first (now (name .entry)) ⌝ }
