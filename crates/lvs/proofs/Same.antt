@@ -28,7 +28,7 @@ same-verdict = same-back verdictOf verdictFrom verdict-back
 matchingFrom : Matching → MatchAnswer
 matchingFrom (Matching.matched v n) = matchings.Match v n
 matchingFrom Matching.noMatch = matchings.NoMatch
-matchingFrom (Matching.refused r) = matchings.Refused (r .number) (r .node)
+matchingFrom (Matching.refused r) = matchings.Refused (r .number) (r .at)
 
 matching-back : (r : MatchAnswer) → matchingFrom (matchAnswerOf r) ≡ r
 unfolding matchingFrom
@@ -42,7 +42,7 @@ same-matching = same-back matchAnswerOf matchingFrom matching-back
 signingFrom : Signing → SignAnswer
 signingFrom (Signing.allowed p k) = signings.Allowed p k
 signingFrom Signing.notAllowed = signings.NotAllowed
-signingFrom (Signing.refused r) = signings.Refused (r .number) (r .node)
+signingFrom (Signing.refused r) = signings.Refused (r .number) (r .at)
 
 signing-back : (r : SignAnswer) → signingFrom (signAnswerOf r) ≡ r
 unfolding signingFrom

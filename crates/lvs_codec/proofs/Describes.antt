@@ -21,7 +21,7 @@ use Rattle.lvs_describe.specs.declared.Described.the-variants.{Of, TooShort}
 
 -- a refused model
 pub model-refused : (b ns ts : List ℕ) {v : Verdict} {r i : ℕ} → verdictOf v ≡ verdict b → v ≡ verdicts.Refused r i
-    → describeRefused (record { number = r; node = i }) ns ts ≡ describeOutcome b ns ts
+    → describeRefused (record { number = r; at = i }) ns ts ≡ describeOutcome b ns ts
 model-refused b ns ts e f = describing-is (refused-model (sym e ∙ ap verdictOf f))
 
 -- ---- an accepted one: what `lvs_describe::describe` answered, as an outcome of this call

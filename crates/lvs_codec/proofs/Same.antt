@@ -9,7 +9,7 @@ use Rattle.lvs_codec.specs.declared.DescribeAnswer.the-variants as descr
 
 writingFrom : Writing → WriteAnswer
 writingFrom (Writing.written n) = writings.Written n
-writingFrom (Writing.refused x) = writings.Refused (x .number) (x .node)
+writingFrom (Writing.refused x) = writings.Refused (x .number) (x .at)
 
 writing-back : (r : WriteAnswer) → writingFrom (writeAnswerOf r) ≡ r
 unfolding writingFrom
@@ -21,7 +21,7 @@ same-writing r q e = sym (writing-back r) ∙ ap writingFrom e ∙ writing-back 
 
 describingFrom : Describing → DescribeAnswer
 describingFrom (Describing.described n t) = describings.Described n t
-describingFrom (Describing.refused x) = describings.Refused (x .number) (x .node)
+describingFrom (Describing.refused x) = describings.Refused (x .number) (x .at)
 
 describing-back : (r : DescribeAnswer) → describingFrom (describeAnswerOf r) ≡ r
 unfolding describingFrom

@@ -89,16 +89,16 @@ module _ {ns ts place y : List ℕ} (S : Sized ns ts (length place)) (W : Writte
 
     -- refuses, whatever the output is;
     module _ {r i : ℕ} (f : v ≡ verdicts.Refused r i) where
-      pub bytes-refused : (before : List ℕ) → writeRefused (record { number = r; node = i }) before ≡ writeOutcome ns ts before
+      pub bytes-refused : (before : List ℕ) → writeRefused (record { number = r; at = i }) before ≡ writeOutcome ns ts before
       bytes-refused before = writing-is (refused-bytes (S .is) (judged f))
 
       -- what stood there was kept, and is put back
       pub put-back : {space kept z : List ℕ} → Stored space kept 0 place → length space ≡ length place → Stored y z 0 kept
-          → writeRefused (record { number = r; node = i }) z ≡ writeOutcome ns ts place
+          → writeRefused (record { number = r; at = i }) z ≡ writeOutcome ns ts place
       put-back P same Q =
           let is = filled P (sym same) in
           let long : length y ≡ length place = ap length bytes-are ∙ sym (S .size-is) in
-          ap (writeRefused (record { number = r; node = i })) (filled Q (ap length is ∙ sym long) ∙ is) ∙ bytes-refused place
+          ap (writeRefused (record { number = r; at = i })) (filled Q (ap length is ∙ sym long) ∙ is) ∙ bytes-refused place
 
     -- or accepts,
     module _ {k : ℕ} (f : v ≡ verdicts.Accepted k) where
@@ -127,7 +127,7 @@ module _ {ns ts : List ℕ} {n : ℕ} (S : Sized ns ts n) (before : List ℕ) (h
       go : (v : Judged) → verdict (modelBytes (S .model)) ≡ v → widened (writeOutcome ns ts (take n before)) ≡ writeOutcome ns ts before
       go (refused r i) v =
           ap widened (sym (writing-is (refused-bytes (S .is) v))) ∙
-          ap (writeRefused (record { number = r; node = i })) (take-append-drop n before) ∙
+          ap (writeRefused (record { number = r; at = i })) (take-append-drop n before) ∙
           writing-is (refused-bytes (S .is) v)
       go (accepted k) v =
           let bs = modelBytes (S .model) in

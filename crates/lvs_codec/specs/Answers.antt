@@ -15,11 +15,11 @@ use Rattle.lvs_codec.specs.declared.DescribeAnswer.the-variants as descr
 
 abbrev pub writeAnswerOf : WriteAnswer → Writing
 writeAnswerOf (writings.Written n) = Writing.written n
-writeAnswerOf (writings.Refused r i) = Writing.refused (record { number = r; node = i })
+writeAnswerOf (writings.Refused r i) = Writing.refused (record { number = r; at = i })
 
 abbrev pub describeAnswerOf : DescribeAnswer → Describing
 describeAnswerOf (describings.Described n t) = Describing.described n t
-describeAnswerOf (describings.Refused r i) = Describing.refused (record { number = r; node = i })
+describeAnswerOf (describings.Refused r i) = Describing.refused (record { number = r; at = i })
 
 -- the two lists describe a model of `size` bytes, which is not too long
 pub record Sized (ns ts : List ℕ) (size : ℕ) : Type 0 where

@@ -33,7 +33,7 @@ use Rattle.lvs_description.proofs.Theorem as theorem
 pub data Writing (ns ts before : List ℕ) : WriteOutcome → Type 0 where
   no-description : descriptionOf ns ts ≡ none → Writing ns ts before (writeRefused (plain noDescription) before)
   refused-bytes : {m : Model} {r i : ℕ} → descriptionOf ns ts ≡ some m → verdict (modelBytes m) ≡ Verdict.refused r i
-      → Writing ns ts before (writeRefused (record { number = r; node = i }) before)
+      → Writing ns ts before (writeRefused (record { number = r; at = i }) before)
   short-output : {m : Model} {count : ℕ} → descriptionOf ns ts ≡ some m → verdict (modelBytes m) ≡ accepted count
       → length before < length (modelBytes m) → Writing ns ts before (writeRefused (plain shortOutput) before)
   on-output : {m : Model} {count : ℕ} → descriptionOf ns ts ≡ some m → verdict (modelBytes m) ≡ accepted count
@@ -108,11 +108,11 @@ module _ {ns ts before : List ℕ} where
 
   -- why a description was refused
   why-in : {o : WriteOutcome} {x : Refusal} {m : Model} → Writing ns ts before o → o .answer ≡ WriteAnswer.refused x → descriptionOf ns ts ≡ some m
-      → (verdict (modelBytes m) ≡ Verdict.refused (x .number) (x .node)) ⊎ ((x ≡ plain shortOutput) × (count : ℕ) × (verdict (modelBytes m) ≡ accepted count))
+      → (verdict (modelBytes m) ≡ Verdict.refused (x .number) (x .at)) ⊎ ((x ≡ plain shortOutput) × (count : ℕ) × (verdict (modelBytes m) ≡ accepted count))
   why-in (no-description e) h d = clash (cc)
   why-in {x = x} {m} (refused-bytes {m = m′} {r} {i} e v) h d =
       let same : m′ ≡ m = cc in
-      let y : record { number = r; node = i } ≡ x = cc in
+      let y : record { number = r; at = i } ≡ x = cc in
       inl (sym (ap (λ (a : Model). verdict (modelBytes a)) same) ∙ v ∙ ap (λ (a : Refusal). Verdict.refused (a .number) (a .node)) y)
   why-in {m = m} (short-output {m = m′} {count} e v l) h d =
       let same : m′ ≡ m = cc in
@@ -139,7 +139,7 @@ module _ (ns ts before : List ℕ) where
 
   -- a description is refused with the two numbers of the verdict on its bytes, or, where these are accepted, with 31
   pub write-why : {x : Refusal} {m : Model} → writeOutcome ns ts before .answer ≡ WriteAnswer.refused x → descriptionOf ns ts ≡ some m
-      → (verdict (modelBytes m) ≡ Verdict.refused (x .number) (x .node)) ⊎ ((x ≡ plain shortOutput) × (count : ℕ) × (verdict (modelBytes m) ≡ accepted count))
+      → (verdict (modelBytes m) ≡ Verdict.refused (x .number) (x .at)) ⊎ ((x ≡ plain shortOutput) × (count : ℕ) × (verdict (modelBytes m) ≡ accepted count))
   write-why h d = why-in (writing ns ts before) h d
 
   -- the numbers of the refusals
@@ -155,7 +155,7 @@ pub record Room (m : Model) (ns ts : List ℕ) : Type 0 where
 
 -- What the describing call answers and leaves, by cases, in the order in which they are tested: the model's own refusals, 30, and described.
 pub data Describing (b ns ts : List ℕ) : DescribeOutcome → Type 0 where
-  refused-model : {r i : ℕ} → verdict b ≡ Verdict.refused r i → Describing b ns ts (describeRefused (record { number = r; node = i }) ns ts)
+  refused-model : {r i : ℕ} → verdict b ≡ Verdict.refused r i → Describing b ns ts (describeRefused (record { number = r; at = i }) ns ts)
   short-lists : {count : ℕ} → verdict b ≡ accepted count → ¬ Room (modelOf b) ns ts → Describing b ns ts (describeRefused (plain noDescription) ns ts)
   on-lists : {count : ℕ} → verdict b ≡ accepted count → Room (modelOf b) ns ts
       → Describing b ns ts (record {

@@ -46,7 +46,7 @@ writtenTo bs before =
 
 -- what reading the bytes would refuse is refused with the same two numbers
 unfoldable pub writtenAs : Verdict → List ℕ → List ℕ → WriteOutcome
-writtenAs (Verdict.refused r i) bs before = writeRefused (record { number = r; node = i }) before
+writtenAs (Verdict.refused r i) bs before = writeRefused (record { number = r; at = i }) before
 writtenAs (Verdict.accepted n) bs before = writtenTo bs before
 
 unfoldable pub writtenFrom : Option Model → List ℕ → WriteOutcome
@@ -85,7 +85,7 @@ describedTo m ns ts =
     ]
 
 unfoldable pub describedAs : Verdict → Model → List ℕ → List ℕ → DescribeOutcome
-describedAs (Verdict.refused r i) m ns ts = describeRefused (record { number = r; node = i }) ns ts
+describedAs (Verdict.refused r i) m ns ts = describeRefused (record { number = r; at = i }) ns ts
 describedAs (Verdict.accepted n) m ns ts = describedTo m ns ts
 
 -- a model's description, in two lent lists

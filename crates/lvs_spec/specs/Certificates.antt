@@ -1,0 +1,70 @@
+-- What the suggesting call answers (docs/format.md, 8.4): the first certificate of a list that may sign a packet.
+use Prim.Native.Nat.{ℕ}
+use mathlib.Core.Bool.{Bool, true, false}
+use mathlib.Core.List.{List}
+use mathlib.Core.Option.{Option, none, some}
+use lib.Dec.{ltb}
+use lib.ListN.{length}
+use Rattle.tlv.specs.Element.{Element, cuts, pieces, elementBytes}
+use Rattle.tlv.specs.Lists.{firstIndex}
+use Rattle.lvs_spec.specs.Limits.{maxCertificates}
+use Rattle.lvs_spec.specs.Model.{Model}
+use Rattle.lvs_spec.specs.Names.{NameReading, badName, goodName, packetName, keyName}
+use Rattle.lvs_spec.specs.Answers.{Refusal, Usable, unusable, usable, usableModel, plain, SignAnswer, notAllowed, allowed, signIn}
+
+-- an entry of the list: an element of any type, which should be a certificate's name; or `none`, a rest that cannot be cut
+abbrev pub Entry : Type 0
+Entry = Option Element
+
+-- the list is cut by its elements' lengths
+unfoldable pub entries : List ℕ → List Entry
+entries list = pieces (cuts list)
+
+abbrev pub isBad : NameReading → Bool
+isBad (badName r) = true
+isBad (goodName cs) = false
+
+-- it cannot be cut, or 24 to 26 would refuse it as a key name
+unfoldable pub unfit : Entry → Bool
+unfit none = true
+unfit (some e) = isBad (keyName (elementBytes e))
+
+abbrev pub isAllowed : SignAnswer → Bool
+isAllowed (SignAnswer.refused r) = false
+isAllowed notAllowed = false
+isAllowed (allowed p k) = true
+
+-- the signing answer allows it as the key name
+unfoldable pub allows : Model → List ℕ → Entry → Bool
+allows m packet none = false
+allows m packet (some e) = isAllowed (signIn (usable m) packet (elementBytes e))
+
+pub data SuggestAnswer : Type 0 where
+  refused : Refusal → SuggestAnswer
+  noCertificate : SuggestAnswer
+  certificate : (index : ℕ) → SuggestAnswer
+
+unfoldable pub suggested : Option ℕ → SuggestAnswer
+suggested none = noCertificate
+suggested (some i) = certificate i
+
+-- 32 names the entry; without one the whole list is fit, and the first that is allowed is answered
+unfoldable pub suggestFit : Model → List ℕ → List Entry → Option ℕ → SuggestAnswer
+suggestFit m packet es (some i) = SuggestAnswer.refused (record { number = 32; at = i })
+suggestFit m packet es none = suggested (firstIndex (allows m packet) 0 es)
+
+-- 33 is tested before 32: bytes are left after 64 entries, be it that they cannot be cut
+unfoldable pub suggestFrom : Model → List ℕ → List Entry → Bool → SuggestAnswer
+suggestFrom m packet es true = SuggestAnswer.refused (plain 33)
+suggestFrom m packet es false = suggestFit m packet es (firstIndex unfit 0 es)
+
+unfoldable pub suggestName : Model → List ℕ → NameReading → List Entry → SuggestAnswer
+suggestName m packet (badName r) es = SuggestAnswer.refused (plain r)
+suggestName m packet (goodName cs) es = suggestFrom m packet es (ltb maxCertificates (length es))
+
+unfoldable pub suggestIn : Usable → List ℕ → List ℕ → SuggestAnswer
+suggestIn (unusable r) packet list = SuggestAnswer.refused r
+suggestIn (usable m) packet list = suggestName m packet (packetName packet) (entries list)
+
+unfoldable pub suggestAnswer : List ℕ → List ℕ → List ℕ → SuggestAnswer
+suggestAnswer model packet list = suggestIn (usableModel model) packet list
