@@ -3,13 +3,13 @@ use Prim.Native.Nat.{ℕ, _+_, _≤_, _<_}
 use mathlib.Core.Path.{_≡_, refl, sym, _∙_}
 use mathlib.Core.Bool.{Bool, true, false}
 use mathlib.Core.List.{List, _++_}
-use mathlib.Core.Option.{none, some}
+use mathlib.Core.Option.{Option, none, some}
 use native.Mathlib.Omega.{arith}
 use borrow.Author.Tests.{lt-ltb, le-ltb, ltb-false}
 use lib.Dec.{ltb}
 use lib.ListN.{length, drop, length-map}
-use Rattle.tlv.specs.Lists.{first}
-use Rattle.lvs_spec.specs.Limits.{maxModelBytes, maxNameBytes, bindingWords}
+use Rattle.tlv.specs.Lists.{first, firstIndex}
+use Rattle.lvs_spec.specs.Limits.{maxModelBytes, maxCertificates, bindingWords}
 use Rattle.lvs_spec.specs.Types as type
 use Rattle.lvs_spec.specs.WellFormed.{tooLong, otherVersion, wellFormed}
 use Rattle.lvs_spec.specs.Model.{Model, nodeOf, modelOf}
@@ -18,10 +18,13 @@ use Rattle.lvs_spec.specs.Verdict.{Verdict, unreadable, describes, reading, jud
 use Rattle.lvs_spec.specs.Names.{Component, badName, goodName, nameReading, packetName, keyName}
 use Rattle.lvs_spec.specs.Walk.{Match, packetMatches, pairs}
 use Rattle.lvs_spec.specs.Answers.{MatchAnswer, plain, words, boundCount, matchRefused, matchFound, matchWalked, matchRoom, matchName, matchIn, matchOutcome}
-use Rattle.lvs_spec.specs.Answers.{SignAnswer, pairFound, pairWalked, signNames, signIn, signAnswer}
+use Rattle.lvs_spec.specs.Answers.{SignAnswer, pairFound, signNames, signIn, signAnswer}
+use Rattle.lvs_spec.specs.Certificates.{Entry, entries, unfit, allows}
+use Rattle.lvs_spec.specs.Certificates.{SuggestAnswer, suggested, suggestFit, suggestFrom, suggestName, suggestIn, suggestAnswer}
 use Rattle.lvs_spec.proofs.Rules.{judge-few}
 use Rattle.lvs_spec.proofs.Usable.{accepted-usable, refused-unusable}
-use Rattle.lvs_spec.proofs.Lists.{clash}
+use Rattle.lvs_spec.proofs.Lists.{clash, index-below}
+use Rattle.lvs_spec.proofs.Signing.{signs-first}
 use Rattle.lvs_edges.specs.Nodes.{Walkable}
 use Rattle.lvs_edges.proofs.Ordered.{well-ordered}
 
@@ -64,20 +67,10 @@ walkable b h =
       ordered = well-ordered b (a .well-formed);
     }
 
--- ---- names
-
-pub name-short : (base : ℕ) (b : List ℕ) {cs : List Component} → goodName cs ≡ nameReading base b → length b ≤ maxNameBytes
-unfolding nameReading
-name-short base b {cs} h = go (ltb maxNameBytes (length b)) refl
-  where
-    go : (t : Bool) → ltb maxNameBytes (length b) ≡ t → length b ≤ maxNameBytes
-    go true p = let h′ : goodName cs ≡ badName base = rw p at h in clash (cc)
-    go false p = ltb-false maxNameBytes (length b) p
-
 -- ---- the match call
 
 module _ (b name buffer : List ℕ) where
-  pub match-refused : {r i : ℕ} → verdict b ≡ Verdict.refused r i → matchOutcome b name buffer ≡ matchRefused (record { number = r; node = i }) buffer
+  pub match-refused : {r i : ℕ} → verdict b ≡ Verdict.refused r i → matchOutcome b name buffer ≡ matchRefused (record { number = r; at = i }) buffer
   unfolding matchOutcome matchIn
   match-refused {r} {i} h = rw (refused-unusable b r i h)
 
@@ -113,7 +106,7 @@ module _ (b name buffer : List ℕ) where
 -- ---- the signing call
 
 module _ (b packet key : List ℕ) where
-  pub sign-refused : {r i : ℕ} → verdict b ≡ Verdict.refused r i → signAnswer b packet key ≡ SignAnswer.refused (record { number = r; node = i })
+  pub sign-refused : {r i : ℕ} → verdict b ≡ Verdict.refused r i → signAnswer b packet key ≡ SignAnswer.refused (record { number = r; at = i })
   unfolding signAnswer signIn
   sign-refused {r} {i} h = rw (refused-unusable b r i h)
 
@@ -132,5 +125,51 @@ module _ (b packet key : List ℕ) where
       sign-bad-key h = named ∙ rw (← good, ← h)
 
       pub sign-walked : {ks : List Component} → goodName ks ≡ nameReading 24 key → signAnswer b packet key ≡ pairFound (first (pairs (modelOf b) ps ks))
-      unfolding signNames pairWalked pairs
-      sign-walked h = named ∙ rw (← good, ← h)
+      unfolding signAnswer packetName keyName
+      sign-walked h = rw (accepted-usable b n accepted) (signs-first (modelOf b) packet key (sym good) (sym h))
+
+-- ---- the suggesting call
+
+-- no refusal comes before 32
+pub record NotMany (b packet list : List ℕ) : Type 0 where
+  goes-on : suggestAnswer b packet list ≡ suggestFit (modelOf b) packet (entries list) (firstIndex unfit 0 (entries list))
+  few : length (entries list) ≤ maxCertificates
+
+module _ (b packet list : List ℕ) where
+  pub suggest-refused : {r i : ℕ} → verdict b ≡ Verdict.refused r i → suggestAnswer b packet list ≡ SuggestAnswer.refused (record { number = r; at = i })
+  unfolding suggestAnswer suggestIn
+  suggest-refused {r} {i} h = rw (refused-unusable b r i h)
+
+  module _ {n : ℕ} (accepted : verdict b ≡ Verdict.accepted n) where
+    pub suggest-bad-packet : {r : ℕ} → badName r ≡ nameReading 21 packet → suggestAnswer b packet list ≡ SuggestAnswer.refused (plain r)
+    unfolding suggestAnswer suggestIn suggestName packetName
+    suggest-bad-packet h = rw (accepted-usable b n accepted, ← h)
+
+    module _ {ps : List Component} {many : Bool} (good : goodName ps ≡ nameReading 21 packet)
+        (tested : many ≡ ltb maxCertificates (length (entries list))) where
+      listed : suggestAnswer b packet list ≡ suggestFrom (modelOf b) packet (entries list) many
+      unfolding suggestAnswer suggestIn suggestName packetName
+      listed = rw (accepted-usable b n accepted, ← good, ← tested)
+
+      pub suggest-many : many ≡ true → suggestAnswer b packet list ≡ SuggestAnswer.refused (plain 33)
+      unfolding suggestFrom
+      suggest-many e = listed ∙ rw e
+
+      pub not-many : many ≡ false → NotMany b packet list
+      unfolding suggestFrom
+      not-many e = record { goes-on = listed ∙ rw e; few = ltb-false maxCertificates (length (entries list)) (sym tested ∙ e) }
+
+module _ {b packet list : List ℕ} (tested : NotMany b packet list) where
+  -- an index fits into a word
+  pub index-few : (f : Entry → Bool) {i : ℕ} → some i ≡ firstIndex f 0 (entries list) → i < maxCertificates
+  index-few f e = omega (arith, index-below f 0 (entries list) (sym e), tested .few)
+
+  pub suggest-unfit : {i : ℕ} → some i ≡ firstIndex unfit 0 (entries list)
+      → suggestAnswer b packet list ≡ SuggestAnswer.refused (record { number = 32; at = i })
+  unfolding suggestFit
+  suggest-unfit e = tested .goes-on ∙ rw (← e)
+
+  pub suggest-found : {o : Option ℕ} → none ≡ firstIndex unfit 0 (entries list) → o ≡ firstIndex (allows (modelOf b) packet) 0 (entries list)
+      → suggestAnswer b packet list ≡ suggested o
+  unfolding suggestFit
+  suggest-found e h = tested .goes-on ∙ rw (← e, ← h)

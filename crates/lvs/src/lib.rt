@@ -1,20 +1,24 @@
-// The public face: three calls on slices. Any bytes have an answer, and no call relies on an earlier one.
+// The public face: four calls on slices. Any bytes have an answer, and no call relies on an earlier one.
 ghost use mathlib.Core.Path.{_≡_};
 ghost use Rattle.lvs_spec.specs.Verdict.{verdict};
 ghost use Rattle.lvs_spec.specs.Answers.{matchOutcome, signAnswer};
-ghost use Rattle.lvs.specs.Answers.{verdictOf, matchAnswerOf, signAnswerOf};
+ghost use Rattle.lvs_spec.specs.Certificates.{suggestAnswer};
+ghost use Rattle.lvs.specs.Answers.{verdictOf, matchAnswerOf, signAnswerOf, suggestAnswerOf};
 use lvs_bindings::SLOT_WORDS;
+use lvs_certificates::Index;
 use lvs_edges::nodes::PLACE_WORDS;
 use lvs_grammar::Reading;
+use lvs_names::KEY_REFUSALS;
 use lvs_names::NameRead;
+use lvs_names::PACKET_REFUSALS;
 use lvs_rules::Judged;
 use lvs_walk::Found;
 
-const PACKET_REFUSALS: u32 = 21;
-
-const KEY_REFUSALS: u32 = 24;
-
 const SHORT_BUFFER: u32 = 27;
+
+const UNFIT_CERTIFICATE: u32 = 32;
+
+const MANY_CERTIFICATES: u32 = 33;
 
 // What a model is: accepted with its number of Nodes, or refused with a number of docs/format.md, 5, and a node index.
 pub enum Verdict {
@@ -34,6 +38,13 @@ pub enum SignAnswer {
     Allowed { packet: u64, key: u64 },
     NotAllowed,
     Refused { number: u32, node: u32 },
+}
+
+// The first certificate of a list that may sign a packet: its index from 0. A refusal has a node index, or with 32 the index of an entry.
+pub enum SuggestAnswer {
+    Certificate { index: u32 },
+    NoCertificate,
+    Refused { number: u32, at: u32 },
 }
 
 pub fn judge_model(model: &[u8]) -> Verdict
@@ -101,5 +112,38 @@ pub fn sign<'a>(model: &[u8], packet: &'a [u8], key: &'a [u8]) -> SignAnswer
                 }
             }
         },
+    }
+}
+
+// Which certificate of a list may sign a packet name: the first that `sign` would allow as the key name. The model is judged and its Nodes are
+// found once for all of them.
+pub fn suggest<'a>(model: &[u8], packet: &'a [u8], list: &'a [u8]) -> SuggestAnswer
+    ensures { λ r. ⌜ suggestAnswerOf r ≡ suggestAnswer (now (model .entry)) (now (packet .entry)) (now (list .entry)) ⌝ }
+{
+    if let Verdict::Refused { number, node } = judge_model(model) {
+        return SuggestAnswer::Refused { number, at: node };
+    }
+    match lvs_names::read_name(packet, PACKET_REFUSALS) {
+        NameRead::Refused(number) => SuggestAnswer::Refused { number, at: 0 },
+        NameRead::Good(from) => {
+            if lvs_certificates::too_many(list) {
+                return SuggestAnswer::Refused {
+                    number: MANY_CERTIFICATES,
+                    at: 0,
+                };
+            }
+            if let Index::At(i) = lvs_certificates::first_unfit(list) {
+                return SuggestAnswer::Refused {
+                    number: UNFIT_CERTIFICATE,
+                    at: i as u32,
+                };
+            }
+            let mut places = [0u32; PLACE_WORDS];
+            lvs_edges::nodes::node_places(model, &mut places);
+            match lvs_certificates::first_allowed(model, &places, packet, from, list) {
+                Index::At(i) => SuggestAnswer::Certificate { index: i as u32 },
+                Index::Nowhere => SuggestAnswer::NoCertificate,
+            }
+        }
     }
 }
