@@ -7,6 +7,7 @@
 //     V  model                         accepted NODES | refused NUMBER NODE
 //     M  model, packet name, words     match NODE BOUND | no match | refused NUMBER NODE, then the words
 //     S  model, packet name, key name  allowed PACKET KEY | not allowed | refused NUMBER NODE
+//     C  model, packet name, list      certificate INDEX | none | refused NUMBER INDEX
 //     W  numbers, texts, output        written BYTES | refused NUMBER NODE, then the output
 //     D  model, numbers, texts         described NUMBERS BYTES | refused NUMBER NODE, then the numbers and the texts
 //
@@ -21,6 +22,7 @@ mod judging;
 mod matching;
 mod output;
 mod signing;
+mod suggesting;
 mod turn;
 mod words;
 mod writing;
@@ -115,6 +117,7 @@ fn answer_case(
         b'V' => judging::answer(behind, &model[..n], out, used),
         b'M' => matching::answer(space, behind, &model[..n], out, used),
         b'S' => signing::answer(space, behind, &model[..n], out, used),
+        b'C' => suggesting::answer(space, behind, &model[..n], texts, out, used),
         b'D' => describing::answer(space, behind, &model[..n], numbers, texts, out, used),
         _ => turn::broken(behind, used),
     }
