@@ -99,13 +99,18 @@ fn try_sign(model: &[u8], packet: &[u8], key: &[u8]) -> Result<SignAnswer, Refus
     let model = load(model)?;
     let packet = Name::load(packet, Role::Packet)?;
     let key = Name::load(key, Role::Key)?;
+    Ok(sign_loaded(&model, &packet, &key))
+}
+
+/// The signing answer for inputs that have been tested.
+pub fn sign_loaded<'n>(model: &Model, packet: &Name<'n>, key: &Name<'n>) -> SignAnswer {
     let first = visit_matches(
-        &model,
+        model,
         &packet.components,
         &mut Bindings::default(),
         &mut |packet_node, bindings| {
             let signers = &model.nodes[packet_node].signers;
-            first_signer(&model, &key.components, bindings, signers).map_break(|key_node| {
+            first_signer(model, &key.components, bindings, signers).map_break(|key_node| {
                 SignAnswer::Allowed {
                     packet: packet_node,
                     key: key_node,
@@ -113,7 +118,7 @@ fn try_sign(model: &[u8], packet: &[u8], key: &[u8]) -> Result<SignAnswer, Refus
             })
         },
     );
-    Ok(first.break_value().unwrap_or(SignAnswer::NotAllowed))
+    first.break_value().unwrap_or(SignAnswer::NotAllowed)
 }
 
 /// The first match of the key, under the packet's bindings, that is a signer.

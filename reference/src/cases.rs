@@ -7,7 +7,7 @@ use std::borrow::Cow;
 use std::fmt::Display;
 use std::io::{self, Read, Write};
 
-use crate::{describe, match_name, sign, verdict, write_model};
+use crate::{describe, find_certificate, match_name, sign, verdict, write_model};
 
 /// The longest model, name and binding buffer in a case.
 pub const MAX_MODEL_FIELD: usize = 65_536;
@@ -17,6 +17,8 @@ pub const MAX_WORDS: usize = 1_024;
 pub const MAX_NUMBERS: usize = 8_192;
 pub const MAX_TEXTS_FIELD: usize = 65_536;
 pub const MAX_OUTPUT_FIELD: usize = 65_536;
+/// The longest list of certificates in a case.
+pub const MAX_LIST_FIELD: usize = 65_536;
 
 /// The inputs of one call.
 #[derive(Clone, Debug, PartialEq, Eq)]
@@ -43,6 +45,11 @@ pub enum Case {
         model: Vec<u8>,
         numbers: Vec<u64>,
         texts: Vec<u8>,
+    },
+    Certificate {
+        model: Vec<u8>,
+        packet: Vec<u8>,
+        list: Vec<u8>,
     },
 }
 
@@ -84,6 +91,11 @@ impl Case {
                 b'D',
                 vec![model.into(), number_field(numbers), texts.into()],
             ),
+            Case::Certificate {
+                model,
+                packet,
+                list,
+            } => (b'C', vec![model.into(), packet.into(), list.into()]),
         }
     }
 
@@ -115,6 +127,11 @@ impl Case {
                 model: read_field(input, MAX_MODEL_FIELD)?,
                 numbers: read_list(input, MAX_NUMBERS, u64::from_be_bytes)?,
                 texts: read_field(input, MAX_TEXTS_FIELD)?,
+            },
+            b'C' => Case::Certificate {
+                model: read_field(input, MAX_MODEL_FIELD)?,
+                packet: read_field(input, MAX_NAME_FIELD)?,
+                list: read_field(input, MAX_LIST_FIELD)?,
             },
             _ => return Err(Broken),
         };
@@ -155,6 +172,11 @@ impl Case {
                 write_hexadecimal(out, &texts)?;
                 writeln!(out)
             }
+            Case::Certificate {
+                model,
+                packet,
+                list,
+            } => writeln!(out, "{}", find_certificate(&model, &packet, &list)),
         }
     }
 }
@@ -268,6 +290,11 @@ mod tests {
                 numbers: vec![1 << 40],
                 texts: vec![2, 3],
             },
+            Case::Certificate {
+                model: vec![4],
+                packet: vec![],
+                list: vec![7, 0, 7],
+            },
         ];
         let mut bytes = Vec::new();
         for case in &cases {
@@ -341,7 +368,7 @@ mod tests {
     }
 
     #[test]
-    fn lists_of_descriptions_have_limits() {
+    fn lists_have_limits() {
         let field = |length: u32| [&length.to_be_bytes()[..], &vec![0; length as usize]].concat();
         let read = |letter: &[u8], lengths: [u32; 3]| {
             let fields: Vec<u8> = lengths.into_iter().flat_map(field).collect();
@@ -353,6 +380,10 @@ mod tests {
             assert!(!read(letter, [0, 65_544, 0]));
             assert!(!read(letter, [0, 0, 65_537]));
         }
+        assert!(read(b"C", [65_536, 4_096, 65_536]));
+        assert!(!read(b"C", [65_537, 0, 0]));
+        assert!(!read(b"C", [0, 4_097, 0]));
+        assert!(!read(b"C", [0, 0, 65_537]));
         assert!(!read(b"D", [7, 4, 0]));
         assert!(!read(b"W", [12, 0, 0]));
     }

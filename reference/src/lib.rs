@@ -7,6 +7,7 @@
 //! - [`verdict`](mod@verdict): the tests of a model, refusals
 //! - [`walk`]: the depth-first walk
 //! - [`answers`]: the calls that match, sign, write and describe
+//! - [`certificates`]: the call that finds a certificate in a list
 //! - [`encode`]: the bytes of a model
 //! - [`description`]: a model as two plain lists
 //! - [`gaps`](mod@gaps): taking optional elements out and putting elements in
@@ -15,6 +16,7 @@
 
 pub mod answers;
 pub mod cases;
+pub mod certificates;
 pub mod description;
 pub mod elements;
 pub mod encode;
@@ -28,5 +30,6 @@ pub mod walk;
 pub use answers::{
     describe, match_name, sign, write_model, DescribeAnswer, MatchAnswer, SignAnswer, WriteAnswer,
 };
+pub use certificates::{find_certificate, CertificateAnswer};
 pub use gaps::{bare, gaps, insert_element, Gap};
 pub use verdict::{verdict, Reason, Refusal, Verdict};

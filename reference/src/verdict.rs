@@ -37,13 +37,16 @@ pub enum Reason {
     /// Lists that form no description, or that are too short for one.
     NoDescription = 30,
     OutputTooShort = 31,
+    /// An entry of a list of certificates can't be cut or is no key name.
+    EntryNoKeyName = 32,
+    TooManyEntries = 33,
 }
 
-/// A refusal: its reason and the position of the first node at fault, or 0.
+/// A refusal: its reason and the index of the first node or entry at fault, or 0.
 #[derive(Clone, Copy, Debug, PartialEq, Eq)]
 pub struct Refusal {
     pub reason: Reason,
-    pub node: usize,
+    pub index: usize,
 }
 
 impl Refusal {
@@ -54,13 +57,13 @@ impl Refusal {
 
 impl From<Reason> for Refusal {
     fn from(reason: Reason) -> Self {
-        Refusal { reason, node: 0 }
+        Refusal { reason, index: 0 }
     }
 }
 
 impl fmt::Display for Refusal {
     fn fmt(&self, f: &mut fmt::Formatter<'_>) -> fmt::Result {
-        write!(f, "refused {} {}", self.number(), self.node)
+        write!(f, "refused {} {}", self.number(), self.index)
     }
 }
 
@@ -218,7 +221,7 @@ fn refuse_first<'a>(
 ) -> Result<(), Refusal> {
     let mut nodes = model.nodes.iter().enumerate();
     match nodes.find(|(index, node)| is_faulty(*index, node)) {
-        Some((node, _)) => Err(Refusal { reason, node }),
+        Some((index, _)) => Err(Refusal { reason, index }),
         None => Ok(()),
     }
 }

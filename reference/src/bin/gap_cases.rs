@@ -96,7 +96,8 @@ fn model_of(case: &Case) -> Option<&[u8]> {
         Case::Verdict { model }
         | Case::Match { model, .. }
         | Case::Sign { model, .. }
-        | Case::Describe { model, .. } => Some(model),
+        | Case::Describe { model, .. }
+        | Case::Certificate { model, .. } => Some(model),
         Case::Write { .. } => None,
     }
 }
@@ -107,7 +108,8 @@ fn with_model(case: &Case, other: Vec<u8>) -> Case {
         Case::Verdict { model }
         | Case::Match { model, .. }
         | Case::Sign { model, .. }
-        | Case::Describe { model, .. } => *model = other,
+        | Case::Describe { model, .. }
+        | Case::Certificate { model, .. } => *model = other,
         Case::Write { .. } => {}
     }
     changed
