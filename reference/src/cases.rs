@@ -368,6 +368,21 @@ mod tests {
     }
 
     #[test]
+    fn lines_of_certificates() {
+        let model = *b"\x61\x04\0\x01\x10\0\x25\x01\0\x69\x01\x07\x63\x06\x25\x01\0\x55\x01\0";
+        let find = |list: &[u8]| {
+            line(Case::Certificate {
+                model: model.into(),
+                packet: vec![7, 0],
+                list: list.into(),
+            })
+        };
+        assert_eq!(find(&[]), "none\n");
+        assert_eq!(find(&[7, 2, 8, 0, 7, 0]), "certificate 1\n");
+        assert_eq!(find(&[7, 0, 7]), "refused 32 1\n");
+    }
+
+    #[test]
     fn lists_have_limits() {
         let field = |length: u32| [&length.to_be_bytes()[..], &vec![0; length as usize]].concat();
         let read = |letter: &[u8], lengths: [u32; 3]| {
