@@ -2,6 +2,7 @@
 //!
 //! A case depends on the seed and its own index only.
 
+mod certificates;
 mod damage;
 mod descriptions;
 mod faults;
@@ -16,6 +17,7 @@ mod sound;
 mod tree;
 mod work;
 
+pub use certificates::certificate_case;
 pub use damage::{critical_kind, optional_kind};
 pub use descriptions::description_case;
 pub use models::{sample, sound_model, Sample};
@@ -23,8 +25,7 @@ pub use program::write_generated;
 pub use random::Random;
 
 use crate::cases::Case;
-use crate::model::Model;
-use crate::verdict::load;
+use work::Models;
 
 /// The largest number of edges that a walk of a generated case may look at.
 const MAX_WORK: u64 = 4_000;
@@ -40,37 +41,38 @@ enum Call {
 pub fn case(seed: u64, index: u64) -> Case {
     let mut random = Random::for_case(seed, index);
     let random = &mut random;
-    let Sample { sound, bytes } = sample(random);
-    let source = load(&sound).expect("sound models are accepted");
+    let sample = sample(random);
     match random.weighted(&[(20, Call::Verdict), (40, Call::Match), (40, Call::Sign)]) {
-        Call::Verdict => Case::Verdict { model: bytes },
-        Call::Match => match_case(random, &source, bytes),
-        Call::Sign => sign_case(random, &source, bytes),
+        Call::Verdict => Case::Verdict {
+            model: sample.bytes,
+        },
+        Call::Match => match_case(random, sample),
+        Call::Sign => sign_case(random, sample),
     }
 }
 
-fn match_case(random: &mut Random, source: &Model, model: Vec<u8>) -> Case {
-    let mut name = names::match_name(random, source);
-    while work::of_match(source, &model, &name) > MAX_WORK {
+fn match_case(random: &mut Random, sample: Sample) -> Case {
+    let models = Models::of(&sample);
+    let mut name = names::match_name(random, &models.source);
+    while models.match_work(&name) > MAX_WORK {
         name = work::shortened(&name);
     }
     Case::Match {
-        model,
+        model: sample.bytes,
         name,
         words: words(random),
     }
 }
 
-fn sign_case(random: &mut Random, source: &Model, model: Vec<u8>) -> Case {
-    let (mut packet, mut key) = names::sign_names(random, source);
-    while work::of_signing(source, &model, &packet, &key) > MAX_WORK {
-        if packet.len() > key.len() {
-            packet = work::shortened(&packet);
-        } else {
-            key = work::shortened(&key);
-        }
+fn sign_case(random: &mut Random, sample: Sample) -> Case {
+    let models = Models::of(&sample);
+    let (mut packet, mut key) = names::sign_names(random, &models.source);
+    models.shorten_both(&mut packet, &mut key, MAX_WORK);
+    Case::Sign {
+        model: sample.bytes,
+        packet,
+        key,
     }
-    Case::Sign { model, packet, key }
 }
 
 /// A binding buffer.

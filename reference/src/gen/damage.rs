@@ -186,7 +186,8 @@ fn alter_list(random: &mut Random, trees: &mut Vec<Tree>) {
     }
 }
 
-fn other_kind(random: &mut Random, kind: u64) -> u64 {
+/// A type that may change what an element is, or is out of range.
+pub fn other_kind(random: &mut Random, kind: u64) -> u64 {
     match random.below(5) {
         0 => (*random.pick(&kind::ALL)).into(),
         1 => critical_kind(random).into(),
@@ -197,7 +198,7 @@ fn other_kind(random: &mut Random, kind: u64) -> u64 {
 }
 
 /// A header that isn't in the shortest form or has another length.
-fn header_form(random: &mut Random, element: &Tree) -> Form {
+pub fn header_form(random: &mut Random, element: &Tree) -> Form {
     let length = match &element.content {
         Content::Bytes(bytes) => bytes.len() as u64,
         Content::Nested(_) => 3,

@@ -15,7 +15,7 @@ const MAX_CANDIDATES: usize = 40;
 
 /// What becomes of the components of a walk.
 #[derive(Clone, Copy, Debug)]
-enum Style {
+pub enum Style {
     Exact,
     Near,
     Random,
@@ -45,7 +45,8 @@ pub fn match_name(random: &mut Random, model: &Model) -> Vec<u8> {
 
 /// A packet name and a key name for a signing call.
 pub fn sign_names(random: &mut Random, model: &Model) -> (Vec<u8>, Vec<u8>) {
-    let (packet, key) = signing_walks(random, model);
+    let signing = Signing::new(random, model);
+    let key = signing.key_walk(random);
     let styles = [
         (780, Style::Exact),
         (80, Style::Near),
@@ -59,34 +60,68 @@ pub fn sign_names(random: &mut Random, model: &Model) -> (Vec<u8>, Vec<u8>) {
     let packet_style = random.weighted(&styles);
     let key_style = random.weighted(&styles);
     (
-        finish(random, model, &packet, packet_style),
+        finish(random, model, &signing.packet, packet_style),
         finish(random, model, &key, key_style),
     )
 }
 
-/// The components of a packet that has signers and of a key among them.
-fn signing_walks<'m>(
-    random: &mut Random,
-    model: &'m Model,
-) -> (Vec<Component<'m>>, Vec<Component<'m>>) {
-    let walker = Walker::new(model);
-    let mut bindings = Bindings::default();
-    let Some(packet_path) = walker.path_to_signed_node(random) else {
-        let packet = walker.any_walk(random, &mut bindings);
-        return (packet, walker.any_walk(random, &mut bindings));
-    };
-    let packet = walker.walk_along(random, &packet_path, &mut bindings);
-    if random.chance(12) {
-        bindings = Bindings::default();
+/// The walk of a packet that has signers, if any packet has, and what is
+/// needed to find its keys.
+pub struct Signing<'m> {
+    walker: Walker<'m>,
+    packet: Vec<Component<'m>>,
+    bindings: Bindings<'m>,
+    signers: &'m [u64],
+}
+
+impl<'m> Signing<'m> {
+    pub fn new(random: &mut Random, model: &'m Model<'m>) -> Self {
+        let walker = Walker::new(model);
+        let mut bindings = Bindings::default();
+        let (packet, signers) = match walker.path_to_signed_node(random) {
+            Some(path) => {
+                let signers = &model.nodes[path[path.len() - 1]].signers[..];
+                (walker.walk_along(random, &path, &mut bindings), signers)
+            }
+            None => (walker.any_walk(random, &mut bindings), &[][..]),
+        };
+        Signing {
+            walker,
+            packet,
+            bindings,
+            signers,
+        }
     }
-    let packet_node = packet_path[packet_path.len() - 1];
-    let signers = &model.nodes[packet_node].signers;
-    let signer = *random.pick(signers) as usize;
-    let key = match walker.path_to(random, signer) {
-        Some(path) if random.chance(92) => walker.walk_along(random, &path, &mut bindings),
-        _ => walker.any_walk(random, &mut bindings),
-    };
-    (packet, key)
+
+    /// A name made from the packet's walk.
+    pub fn packet_name(&self, random: &mut Random, styles: &[(usize, Style)]) -> Vec<u8> {
+        let style = random.weighted(styles);
+        finish(random, self.walker.model, &self.packet, style)
+    }
+
+    /// A name made from the walk of a key.
+    pub fn key_name(&self, random: &mut Random, styles: &[(usize, Style)]) -> Vec<u8> {
+        let walk = self.key_walk(random);
+        let style = random.weighted(styles);
+        finish(random, self.walker.model, &walk, style)
+    }
+
+    /// The components of a key, mostly of one among the signers and under the
+    /// packet's bindings.
+    fn key_walk(&self, random: &mut Random) -> Vec<Component<'m>> {
+        let mut bindings = self.bindings.clone();
+        if self.signers.is_empty() {
+            return self.walker.any_walk(random, &mut bindings);
+        }
+        if random.chance(12) {
+            bindings = Bindings::default();
+        }
+        let signer = *random.pick(self.signers) as usize;
+        match self.walker.path_to(random, signer) {
+            Some(path) if random.chance(92) => self.walker.walk_along(random, &path, &mut bindings),
+            _ => self.walker.any_walk(random, &mut bindings),
+        }
+    }
 }
 
 /// Finds names by walking a model.

@@ -4,6 +4,7 @@
 //! looks at no more. Faulty names and models are counted as if they were sound,
 //! so that a checker that refuses too little comes to an end as well.
 
+use super::models::Sample;
 use crate::elements::{append_element, kind};
 use crate::model::Model;
 use crate::names::Component;
@@ -12,29 +13,78 @@ use crate::verdict::load;
 /// Components behind these are not counted.
 const MAX_COUNTED: usize = 40;
 
-/// The edges that a match call looks at, at most, in the model or in the sound
-/// one that it was made from.
-pub fn of_match(source: &Model, model: &[u8], name: &[u8]) -> u64 {
-    let components = readable_components(name);
-    in_both(source, model, |model| edges_tried(model, &components))
+/// The models in which the walks of a case are counted.
+pub struct Models<'m> {
+    /// The sound model that the case's own was made from.
+    pub source: Model<'m>,
+    /// The case's own, if it is another one that is accepted.
+    altered: Option<Model<'m>>,
 }
 
-/// The edges that a signing call looks at, at most, in the model or in the
-/// sound one that it was made from.
-pub fn of_signing(source: &Model, model: &[u8], packet: &[u8], key: &[u8]) -> u64 {
-    let packet = readable_components(packet);
-    let key = readable_components(key);
-    in_both(source, model, |model| {
-        let matches = arrivals(model, &packet).pop().unwrap_or_default();
-        let matches = matches.into_iter().fold(0, u64::saturating_add);
-        let of_key = matches.saturating_mul(edges_tried(model, &key));
-        edges_tried(model, &packet).saturating_add(of_key)
-    })
-}
+impl<'m> Models<'m> {
+    pub fn of(sample: &'m Sample) -> Self {
+        let Sample { sound, bytes } = sample;
+        let is_altered = bytes != sound;
+        Models {
+            source: load(sound).expect("sound models are accepted"),
+            altered: is_altered.then(|| load(bytes).ok()).flatten(),
+        }
+    }
 
-fn in_both(source: &Model, model: &[u8], count: impl Fn(&Model) -> u64) -> u64 {
-    let in_model = load(model).map_or(0, |model| count(&model));
-    in_model.max(count(source))
+    /// The edges that a match call looks at, at most.
+    pub fn match_work(&self, name: &[u8]) -> u64 {
+        let components = readable_components(name);
+        self.most(|model| edges_tried(model, &components))
+    }
+
+    /// The edges that a signing call looks at, at most.
+    pub fn signing_work(&self, packet: &[u8], key: &[u8]) -> u64 {
+        self.keys_work(packet, &[readable_components(key)])
+    }
+
+    /// The edges that signing calls look at, at most, with each entry of a list
+    /// as the key.
+    pub fn list_work(&self, packet: &[u8], list: &[u8]) -> u64 {
+        let mut keys = Vec::new();
+        let mut rest = list;
+        while let Some((_, behind)) = read_leniently(rest) {
+            keys.push(readable_components(rest));
+            rest = behind;
+        }
+        self.keys_work(packet, &keys)
+    }
+
+    fn keys_work(&self, packet: &[u8], keys: &[Vec<Component>]) -> u64 {
+        let packet = readable_components(packet);
+        self.most(|model| {
+            let matches = arrivals(model, &packet).pop().unwrap_or_default();
+            let matches = matches.into_iter().fold(0, u64::saturating_add);
+            let of_packet = edges_tried(model, &packet);
+            let of_key = |key: &Vec<Component>| {
+                let of_matches = matches.saturating_mul(edges_tried(model, key));
+                of_packet.saturating_add(of_matches)
+            };
+            keys.iter().map(of_key).fold(0, u64::saturating_add)
+        })
+    }
+
+    fn most(&self, count: impl Fn(&Model) -> u64) -> u64 {
+        let in_altered = self.altered.as_ref().map_or(0, &count);
+        in_altered.max(count(&self.source))
+    }
+
+    /// Makes the names of a signing call shorter, the longer one first, until
+    /// the call looks at no more edges than this.
+    pub fn shorten_both(&self, packet: &mut Vec<u8>, key: &mut Vec<u8>, most: u64) {
+        while self.signing_work(packet, key) > most {
+            let longer = if packet.len() > key.len() {
+                &mut *packet
+            } else {
+                &mut *key
+            };
+            *longer = shortened(longer);
+        }
+    }
 }
 
 /// A sound name with the first half of the components.
