@@ -3,15 +3,18 @@
 
 usage: compare.py [CASES [SEED]]
        compare.py --descriptions [CASES [SEED]]
+       compare.py --certificates [CASES [SEED]]
 
 CASES cases (default 100,000) in batches of 20,000, one seed each, beginning with SEED (default 1). In each batch
 - lvs_cases must print the reference's line for every case;
-- lvs_cases must print the reference's line for half as many cases of gen_descriptions, which write (W) and describe (D) models;
+- lvs_cases must print the reference's line for half as many cases of gen_descriptions, which write (W) and describe (D) models,
+  and for a quarter as many of gen_certificates, which look for a certificate in a list (C);
 - lvs_check must print the reference's lines for the first signing cases, given the model as its file;
 - the cases of gap_cases (optional and critical elements in gaps, other versions) must get their lines.
-With --descriptions only cases of gen_descriptions are compared, CASES of them in batches of 10,000, one seed each.
-A difference is printed with its seed and index, and `gen_cases SEED 1 INDEX` or `gen_descriptions SEED 1 INDEX` writes that case alone.
-The last lines say how often each answer came up, with the letter W or D before those of gen_descriptions.
+With --descriptions only cases of gen_descriptions are compared, CASES of them in batches of 10,000, one seed each; with --certificates
+only those of gen_certificates, in batches of 5,000.
+A difference is printed with its program, seed and index, and e.g. `gen_cases SEED 1 INDEX` writes that case alone.
+The last lines say how often each answer came up, with the letter W, D or C before those of gen_descriptions and gen_certificates.
 """
 import collections
 import itertools
@@ -26,10 +29,11 @@ ROOT = pathlib.Path(__file__).resolve().parent.parent
 OURS = ROOT / "target/bin"
 REFERENCE = ROOT / "reference/target/release"
 BATCH = 20_000
-DESCRIPTIONS = BATCH // 2  # cases of gen_descriptions in a batch
+# what follows the cases of gen_cases in a batch: the program gen_NAME and how many of its cases; --NAME compares them alone
+MORE = {"descriptions": BATCH // 2, "certificates": BATCH // 4}
 RUNS = 100  # of lvs_check, in a batch
 LIMIT = 2048  # lvs_check's, for the length of a name
-FIELDS = {b"V": 1, b"M": 3, b"S": 3, b"W": 3, b"D": 3}
+FIELDS = {b"V": 1, b"M": 3, b"S": 3, b"W": 3, b"D": 3, b"C": 3}
 
 
 def build_reference():
@@ -113,36 +117,45 @@ def generate(file, program, *arguments):
         subprocess.run([REFERENCE / program, *map(str, arguments)], stdout=out, check=True)
 
 
-def compare_descriptions(seed, count, folder, answers):
-    """Compares cases that write or describe a model. Answers how many there were, and the differences."""
-    cases = folder / "descriptions"
-    generate(cases, "gen_descriptions", seed, count)
+def compare_cases(program, seed, count, folder):
+    """Compares cases of one program. Answers their file, the reference's lines and the number of differences."""
+    cases = folder / program
+    generate(cases, program, seed, count)
     expected = lines_of(REFERENCE / "answer_cases", cases)
-    wrong = report("gen_descriptions", seed, lines_of(OURS / "lvs_cases", cases), expected)
+    return cases, expected, report(program, seed, lines_of(OURS / "lvs_cases", cases), expected)
+
+
+def compare_more(name, seed, count, folder, answers):
+    """Compares cases of gen_NAME and counts their answers by letter. Answers how many there were, and the differences."""
+    cases, expected, wrong = compare_cases("gen_" + name, seed, count, folder)
     answers.update((letter.decode() + " ", kind(line)) for (letter, _), line in zip(cases_of(cases), expected))
     return len(expected), wrong
 
 
 def compare_batch(seed, count, folder, answers):
-    cases, gaps, lines = folder / "cases", folder / "gaps", folder / "lines"
-    generate(cases, "gen_cases", seed, count)
-    expected = lines_of(REFERENCE / "answer_cases", cases)
-    wrong = report("lvs_cases", seed, lines_of(OURS / "lvs_cases", cases), expected)
+    gaps, lines = folder / "gaps", folder / "lines"
+    cases, expected, wrong = compare_cases("gen_cases", seed, count, folder)
     answers.update(("", kind(line)) for line in expected)
-    described, bad = compare_descriptions(seed, count * DESCRIPTIONS // BATCH, folder, answers)
-    ran, worse = compare_checker(cases, expected, folder)
+    made = {"cases": len(expected)}
+    for name, in_batch in MORE.items():
+        made[f"of {name}"], bad = compare_more(name, seed, count * in_batch // BATCH, folder, answers)
+        wrong += bad
+    made["runs of lvs_check"], bad = compare_checker(cases, expected, folder)
     generate(gaps, "gap_cases", seed, count // 100, lines)
     demanded = lines.read_text().splitlines()
-    wrong += bad + worse + report("demand 3", seed, lines_of(OURS / "lvs_cases", gaps), demanded)
-    print(f"seed {seed}: {len(expected)} cases, {described} of descriptions, {ran} runs of lvs_check, {len(demanded)} cases of demand 3, "
-          f"{wrong} differences", flush=True)
-    return len(expected) + described + ran + len(demanded), wrong
+    made["cases of demand 3"] = len(demanded)
+    wrong += bad + report("demand 3", seed, lines_of(OURS / "lvs_cases", gaps), demanded)
+    print(f"seed {seed}: {', '.join(f'{number} {what}' for what, number in made.items())}, {wrong} differences", flush=True)
+    return sum(made.values()), wrong
 
 
-def compare_description_batch(seed, count, folder, answers):
-    made, wrong = compare_descriptions(seed, count, folder, answers)
-    print(f"seed {seed}: {made} cases of descriptions, {wrong} differences", flush=True)
-    return made, wrong
+def compare_only(name):
+    """A batch that has only cases of gen_NAME."""
+    def compare(seed, count, folder, answers):
+        made, wrong = compare_more(name, seed, count, folder, answers)
+        print(f"seed {seed}: {made} cases of {name}, {wrong} differences", flush=True)
+        return made, wrong
+    return compare
 
 
 def in_order(answer):
@@ -155,8 +168,11 @@ def in_order(answer):
 def main():
     arguments = sys.argv[1:]
     compare, batch = compare_batch, BATCH
-    if arguments[:1] == ["--descriptions"]:
-        compare, batch, arguments = compare_description_batch, DESCRIPTIONS, arguments[1:]
+    if arguments and arguments[0].startswith("--"):
+        name = arguments.pop(0)[2:]
+        if name not in MORE:
+            sys.exit(__doc__)
+        compare, batch = compare_only(name), MORE[name]
     count = int(arguments[0]) if arguments else 100_000
     seed = int(arguments[1]) if len(arguments) > 1 else 1
     build_reference()
