@@ -16,7 +16,7 @@ import time
 
 ROOT = pathlib.Path(__file__).resolve().parent.parent
 CASES = ROOT / "tests/cases"
-TABLES = ("bench", "limits", "refusals", "gaps", "document_003", "walks", "writing")
+TABLES = ("bench", "limits", "refusals", "gaps", "document_003", "walks", "writing", "certificates")
 sys.path.insert(0, str(CASES))
 sys.dont_write_bytecode = True
 
@@ -94,8 +94,8 @@ def driver_runs(program):
     driver = importlib.import_module("driver")
     for what, given, expected in driver.runs():
         yield what, run(program, given, CASES), expected
-    given = driver.GOOD + driver.WORDS + driver.WRITE + driver.DESCRIBE
-    expected = driver.LINE + driver.WORDS_LINE + driver.WRITE_LINE + driver.DESCRIBE_LINE
+    given = driver.GOOD + driver.WORDS + driver.WRITE + driver.DESCRIBE + driver.SUGGEST
+    expected = driver.LINE + driver.WORDS_LINE + driver.WRITE_LINE + driver.DESCRIBE_LINE + driver.SUGGEST_LINE
     yield "in pieces", run_in_pieces(program, given, CASES), expected
 
 

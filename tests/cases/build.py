@@ -146,6 +146,11 @@ def sign(of, packet, key):
     return b"S" + field(of) + field(packet) + field(key)
 
 
+def suggest(of, packet, *entries):
+    """The list is the entries, one after the other."""
+    return b"C" + field(of) + field(packet) + field(b"".join(entries))
+
+
 def number_field(numbers):
     return field(b"".join(n.to_bytes(8, "big") for n in numbers))
 
