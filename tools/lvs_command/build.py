@@ -8,9 +8,8 @@ from collections import namedtuple
 from . import driver
 from .answers import Answer, Refused, counted
 from .description import Lists
-from .errors import ERROR, YES, Failure, say
-from .parser import add_bare_command, file_bytes, print_object, show
-from .sign import printable
+from .errors import YES, Failure
+from .parser import add_bare_command, file_name, file_text, printable, show, show_mistakes
 from .text import FORMAT, Place, Reader
 
 DETAILS = f"""\
@@ -29,9 +28,6 @@ refusal are the proved call's; reading the text is not proved.
 
 {FORMAT}"""
 
-LONGEST_TEXT = 1 << 24
-MOST_MISTAKES = 20  # that are printed
-
 
 class Built(Answer, namedtuple("Numbers", "bytes nodes")):
     answer, status = "written", YES
@@ -48,9 +44,9 @@ def add(commands):
 
 def run(args):
     check_paths(args)
-    reader = Reader().read(text_of(args.text))
+    reader = Reader().read(file_text(args.text, "text", " (lvs show prints a model as text)"))
     if reader.mistakes:
-        return show_mistakes(args, reader.mistakes)
+        return show_mistakes(args, args.text, reader.mistakes)
     lists = Lists(reader.description)
     answer = driver.write(lists.numbers, lists.texts)
     if isinstance(answer, Refused):
@@ -65,32 +61,6 @@ def check_paths(args):
     with contextlib.suppress(OSError):  # of a file that is not there
         if args.text != "-" and os.path.samefile(args.text, args.model):
             args.parser.error("TEXT and MODEL are the same file")
-
-
-def text_of(path):
-    """The text's characters. A byte that is not UTF-8 is one that no good line has."""
-    data = file_bytes(path, "text", LONGEST_TEXT)
-    if b"\0" in data:
-        raise Failure(f"the text {path!r} has a byte 0, so it is no text (lvs show prints a model as text)")
-    if len(data) > LONGEST_TEXT:
-        raise Failure(f"the text {path!r} is longer than {LONGEST_TEXT:,} bytes")
-    return data.decode("utf-8", "surrogateescape").removeprefix("\ufeff")
-
-
-def file_name(path):
-    return "standard input" if path == "-" else path
-
-
-def show_mistakes(args, mistakes):
-    if args.json:
-        for line, why in mistakes:
-            print_object({"line": line, "answer": "error", "error": why})
-        return ERROR
-    for line, why in mistakes[:MOST_MISTAKES]:
-        say(why, f"{file_name(args.text)}:{line}")
-    if len(mistakes) > MOST_MISTAKES:
-        say(f"{counted(len(mistakes) - MOST_MISTAKES, 'more mistake')}")
-    return ERROR
 
 
 def show_refusal(args, answer, places):

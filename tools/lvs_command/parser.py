@@ -3,11 +3,16 @@ import argparse
 import contextlib
 import json
 import sys
+from urllib.parse import quote
 
 from name import Malformed, name_or_bytes
 
+from .answers import counted
 from .driver import MODEL
 from .errors import ERROR, Failure, say
+
+LONGEST_TEXT = 1 << 24
+MOST_MISTAKES = 20  # that are printed
 
 
 class Parser(argparse.ArgumentParser):
@@ -60,6 +65,20 @@ def model_bytes(path):
     return file_bytes(path, "model", MODEL.longest)
 
 
+def file_text(path, what, hint=""):
+    """The characters of a text. A byte that is not UTF-8 is one that no good line has."""
+    data = file_bytes(path, what, LONGEST_TEXT)
+    if b"\0" in data:
+        raise Failure(f"the {what} {path!r} has a byte 0, so it is no text{hint}")
+    if len(data) > LONGEST_TEXT:
+        raise Failure(f"the {what} {path!r} is longer than {LONGEST_TEXT:,} bytes")
+    return data.decode("utf-8", "surrogateescape").removeprefix("\ufeff")
+
+
+def file_name(path):
+    return "standard input" if path == "-" else path
+
+
 def name_bytes(text, what):
     """The bytes of a name; `what` says in the error which name it is."""
     try:
@@ -77,5 +96,23 @@ def show(args, answer, labels=None, more=None, lines=()):
     return answer.status
 
 
+def show_mistakes(args, path, mistakes):
+    """Prints (line, what is wrong) of a text's lines. Answers the exit status."""
+    if args.json:
+        for line, why in mistakes:
+            print_object({"line": line, "answer": "error", "error": why})
+        return ERROR
+    for line, why in mistakes[:MOST_MISTAKES]:
+        say(why, f"{file_name(path)}:{line}")
+    if len(mistakes) > MOST_MISTAKES:
+        say(f"{counted(len(mistakes) - MOST_MISTAKES, 'more mistake')}")
+    return ERROR
+
+
 def print_object(of):
     print(json.dumps(of))
+
+
+def printable(uri):
+    """A name as it was given, but with %XX for what a terminal would not print."""
+    return "".join(c if c.isprintable() else quote(c, errors="surrogateescape") for c in uri)

@@ -1,7 +1,6 @@
 """lvs sign: may a key sign a packet? Of one pair of names, or of many from standard input."""
 import itertools
 import sys
-from urllib.parse import quote
 
 from name import pair, word_lines
 
@@ -9,7 +8,7 @@ from . import driver
 from .answers import Refused, counted
 from .errors import ERROR, YES, Failure, say
 from .model import Labels
-from .parser import add_command, input_lines, model_bytes, name_bytes, print_object, show, standard_input
+from .parser import add_command, input_lines, model_bytes, name_bytes, print_object, printable, show, standard_input
 
 DETAILS = """\
 example:
@@ -111,11 +110,6 @@ def show_error(args, line):
         sys.stdout.flush()
         say(f"line {line.number}: {line.error}")
     return ERROR
-
-
-def printable(uri):
-    """A name as it was given, but with %XX for what a terminal would not print."""
-    return "".join(c if c.isprintable() else quote(c, errors="surrogateescape") for c in uri)
 
 
 class Progress:
