@@ -76,7 +76,10 @@ FILES = {
     "fitting.lvs": many_numbers(FITTING),
     "numbers.lvs": many_numbers(FITTING + 1),
     "example.lvs": EXAMPLE,
+    "certificates.txt": (ROOT / "example/certificates.txt").read_bytes(),
+    "wrong.txt": b"/%\n",
     "a.lvs": A,
+    "b.lvs": B,
     "named.lvs": NAMED,
     "cycle.lvs": CYCLE,
     "any.lvs": ANY,
@@ -122,6 +125,8 @@ REFUSED = {
     27: "refused 27: the buffer for the bindings has fewer than 256 words",
     30: "refused 30: the two lists are no description, or too short for the model's",
     31: "refused 31: the buffer for the model is too short",
+    32: "refused 32 at entry 2: this entry of the list is no key name: it is malformed, longer than 1,024 bytes, or has more than 32 components",
+    33: "refused 33: the list has more than 64 entries",
 }
 
 
@@ -267,6 +272,158 @@ lvs: line 8: packet name '0x7', character 4: {digit}
     yield Run(["sign", "longest.lvs", "-"], 1, lines, given="".join(f"/{i} /b\n" for i in range(1, 601)).encode())
     # what a terminal would take as a command, and bytes that are not UTF-8
     yield Run(["sign", "any.lvs", "-"], 1, pair_line(1, "not allowed", "/%1B[2J%FF/é", "/a"), given=b"/\x1b[2J\xff/\xc3\xa9 /a")
+
+
+# lists of certificates
+
+
+def suggest_run(lines, status, out, err="", packet="/a", file="b.lvs", more=()):
+    """A run with these lines as standard input. By b.lvs /a is signed by /a alone."""
+    return Run(["suggest", *more, file, packet, "-"], status, out, err, "\n".join(lines).encode())
+
+
+def none_of(entries):
+    return 1, f"none of {answers.counted(entries, 'certificate')} may sign this packet\n"
+
+
+def at_line(line, text, note):
+    shown = text if len(text) <= 120 else f"{text[:120]} .. ({len(text):,} characters)"
+    return f"  standard input:{line}: {shown}: {note}\n"
+
+
+def many_entries(line, text):
+    """Refused with 33: the line and the name of the first entry that is one too many."""
+    return 2, REFUSED[33] + "\n" + at_line(line, text, "the 65th entry")
+
+
+def bad_entry(i, line, text, number):
+    """Refused with 32: the entry's index, line and name, and its refusal as a key name."""
+    return 2, REFUSED[32].replace("entry 2", f"entry {i}") + "\n" + at_line(line, text, REFUSED[number])
+
+
+def suggest_runs():
+    admin, other = "/ndn/blog/admin/000001/KEY/1/root/1", "/ndn/blog/author/100002/KEY/1/000001/1"
+    file = "certificates.txt"
+    yield Run(["suggest", "-", ARTICLE, file], 0, AUTHOR + "\n", given=EXAMPLE)
+    for packet, name in (
+        (ARTICLE, AUTHOR),
+        ("/ndn/blog/100002/post/2022/1", other),
+        ("/ndn/blog/100009/post/2022/1", admin),
+        (AUTHOR, admin),
+        (admin, ROOT_KEY),
+    ):
+        yield Run(["suggest", "example.lvs", packet, file], 0, name + "\n")
+    for packet in ROOT_KEY, "/ndn/blog/100001/post/202/1", "/", "/no/such/name":
+        yield Run(["suggest", "example.lvs", packet, file], *none_of(5))
+    of = f'{{"answer": "certificate", "index": 3, "name": "{AUTHOR}", "line": 7}}\n'
+    yield Run(["suggest", "--json", "example.lvs", ARTICLE, file], 0, of)
+    yield Run(["suggest", "--json", "example.lvs", ROOT_KEY, file], 1, '{"answer": "none", "entries": 5}\n')
+    # which lines are entries, and names as they are written
+    yield suggest_run(["/a"], 0, "/a\n")
+    yield suggest_run(["/b", "/a", "/a"], 0, "/a\n")
+    yield suggest_run(["# x", "", "  ", "\t/b \r", "#/a", " # /a", "\t ndn:/%61/ \r", "/a", ""], 0, "ndn:/%61/\n")
+    yield suggest_run(["\ufeff/8=a", "/a"], 0, "/8=a\n")
+    yield suggest_run(["/b", "0x0703080161", "/a"], 0, "0x0703080161\n")
+    of = '{"answer": "certificate", "index": 1, "name": "0x0703080161", "line": 3}\n'
+    yield suggest_run(["/b", "", "0x0703080161"], 0, of, more=["--json"])
+    yield suggest_run(["/", "/a/a", "/b"], *none_of(3))
+    yield suggest_run(["/b"], *none_of(1))
+    for nothing in ([], ["", ""], ["# /a"]):
+        yield suggest_run(nothing, 1, "none: the list is empty\n")
+        yield suggest_run(nothing, 1, '{"answer": "none", "entries": 0}\n', more=["--json"])
+    yield Run(["suggest", "b.lvs", "/a", "/dev/null"], 1, "none: the list is empty\n")
+    # what a terminal would take as a command, and bytes that are not UTF-8
+    yield Run(["suggest", "b.lvs", "/%1B[2J%FF", "-"], 0, "/%1B[2J%FF\n", given=b"/b\n/\x1b[2J\xff")
+
+
+def refused_list_runs():
+    for count in 63, 64:
+        lines = [f"/{i}" for i in range(count)]
+        yield suggest_run(lines, 0, f"/{count - 1}\n", packet=f"/{count - 1}")
+        yield suggest_run(lines, *none_of(count))
+    for count in 65, 66, 500, 30000:
+        yield suggest_run(["# one more line", *(f"/{i}" for i in range(count))], *many_entries(66, "/64"), packet="/0")
+    meaning = REFUSED[33].partition(": ")[2]
+    of = f'{{"answer": "refused", "number": 33, "node": 0, "meaning": "{meaning}", "name": "/a", "line": 65}}\n'
+    yield suggest_run(["/a"] * 70, 2, of, more=["--json"])
+    long, parts = "/" + "x" * 1017, "/a" * 33
+    kinds = (long, 24), ("/" + "x" * 9000, 24), (parts, 26), ("0x080161", 25), ("0x070108", 25), ("0xfe1234567800", 25), ("0x8000", 25)
+    for text, number in kinds:
+        yield suggest_run([text], *bad_entry(0, 1, text, number))
+        yield suggest_run(["/a", "", text, "/b"], *bad_entry(1, 3, text, number))
+        yield suggest_run(["/b", "#", "/b", text, "/a"], *bad_entry(2, 4, text, number))
+        yield suggest_run([*["/b"] * 63, text], *bad_entry(63, 64, text, number))
+        # what comes before it
+        yield suggest_run([text, *["/b"] * 64], *many_entries(65, "/b"))
+        yield suggest_run([text], 2, REFUSED[22] + "\n", packet="0x")
+        yield suggest_run([text], 2, REFUSED[11] + "\n", packet="0x", file="r11.lvs")
+    yield suggest_run([parts, long], *bad_entry(0, 1, parts, 26))
+    yield suggest_run(["/a", long, parts], *bad_entry(1, 2, long, 24))
+    meaning, why = REFUSED[32].partition(": ")[2], REFUSED[26].partition(": ")[2]
+    reason = {"answer": "refused", "number": 26, "node": 0, "meaning": why}
+    of = {"answer": "refused", "number": 32, "index": 1, "meaning": meaning, "name": parts, "line": 3, "reason": reason}
+    yield suggest_run(["/a", "", parts], 2, json.dumps(of) + "\n", more=["--json"])
+    for number in range(1, 13):
+        for lines in ["/a"], []:
+            yield suggest_run(lines, 2, REFUSED[number] + "\n", file=f"r{number}.lvs")
+    yield suggest_run(["/a"], 2, REFUSED[1] + "\n", file="r1-far.lvs", packet="0x")
+    for text, number in bad_names():
+        for lines in ["/a"], [], ["/a"] * 65:
+            yield suggest_run(lines, 2, REFUSED[number] + "\n", packet=text)
+        yield suggest_run(["/a"], 2, REFUSED[7] + "\n", packet=text, file="r7.lvs")
+
+
+def long_list_runs():
+    """Lists of more bytes than the driver takes, and of just as many, which 64 names of 1,024 bytes have."""
+    full = [f"/{i:02}{'y' * 1014}" for i in range(65)]
+    yield suggest_run(full[:64], 0, full[63] + "\n", packet=full[63])
+    yield suggest_run(full[:64], *none_of(64))
+    yield suggest_run(full, *many_entries(65, full[64]), packet=full[63])
+    long, parts = full[63] + "y", "/a" * 33
+    yield suggest_run([*full[:63], long], *bad_entry(63, 64, long, 24), packet=full[62])
+    yield suggest_run([*full[:62], parts, long], *bad_entry(62, 63, parts, 26), packet=full[61])
+    whole = "/" + "z" * (65536 - 8)
+    for long in whole, whole + "z", "/" + "z" * 100000:
+        yield suggest_run([long], *bad_entry(0, 1, long, 24))
+        yield suggest_run([long, "/a"], *bad_entry(0, 1, long, 24))
+        yield suggest_run(["/a", long, parts], *bad_entry(1, 2, long, 24))
+        yield suggest_run(["/a", parts, long], *bad_entry(1, 2, parts, 26))
+        yield suggest_run([*["/a"] * 63, long], *bad_entry(63, 64, long, 24))
+        yield suggest_run([long, *["/a"] * 63], *bad_entry(0, 1, long, 24))
+        yield suggest_run([long, *["/a"] * 64], *many_entries(65, "/a"))
+        yield suggest_run([*["/a"] * 64, long], *many_entries(65, long))
+        for lines in [long], [long] * 65:
+            yield suggest_run(lines, 2, REFUSED[23] + "\n", packet=parts)
+            yield suggest_run(lines, 2, REFUSED[9] + "\n", packet=parts, file="r9.lvs")
+
+
+def list_mistake_runs():
+    """Lines that are no entries: each is said, and nothing is suggested."""
+    percent, digit = "% takes two hexadecimal digits (% itself is %25)", "the last byte takes a second hexadecimal digit"
+    lines = ["/a", "/%", "", "/a /b", "/b # x", "0x7", "x", "/a"]
+    yield suggest_run(lines, 3, "", f"""\
+standard input:2: certificate name '/%', character 2: {percent}
+standard input:4: 2 words, not one certificate name
+standard input:5: 3 words, not one certificate name
+standard input:6: certificate name '0x7', character 4: {digit}
+standard input:7: certificate name 'x', character 1: a name begins with /
+""")
+    yield suggest_run(lines[:4], 3, f"""\
+{{"line": 2, "answer": "error", "error": "certificate name '/%', character 2: {percent}"}}
+{{"line": 4, "answer": "error", "error": "2 words, not one certificate name"}}
+""", more=["--json"])
+    yield Run(["suggest", "r2.lvs", "0x", "wrong.txt"], 3, "", f"wrong.txt:1: certificate name '/%', character 2: {percent}\n")
+    for text in NO_ELEMENTS:
+        yield suggest_run(["/a", text, "/a"], 3, "", f"standard input:2: certificate name {text!r}: the bytes are not one whole element\n")
+    out = "".join(f"standard input:{i}: 2 words, not one certificate name\n" for i in range(1, 21))
+    yield suggest_run(["a b"] * 25, 3, "", out + "lvs: 5 more mistakes\n")
+
+
+# more or less than one element: no bytes, cut, bytes behind, types 0 and 2^32, numbers that are not in their shortest form
+NO_ELEMENTS = (
+    *("0x", "0x07", "0x0701", "0xfd01", "0x07fd01", "0x07ff", "0x070000", "0x07000700", "0x0000", "0xff000000010000000000"),
+    *("0xfd000700", "0x07fd0000", "0x07fd000100", "0x07fe000000010a", "0x07ffffffffffffffffff"),
+)
 
 
 def tree_runs():
@@ -612,11 +769,20 @@ def error_runs():
     yield Run(["sign", "a.lvs", "/a"], 3, "", f"lvs sign: the following arguments are required: KEY {sign_see}\n")
     yield Run(["sign", "a.lvs", "-", "/a"], 3, "", f"lvs sign: - takes pairs from standard input, so KEY cannot be given {sign_see}\n")
     yield Run(["sign", "-", "-"], 3, "", f"lvs sign: standard input has either the model or the pairs {sign_see}\n")
+    suggest_see = "(see lvs suggest --help)"
+    yield Run(["suggest", "a.lvs"], 3, "", f"lvs suggest: the following arguments are required: PACKET, NAMES-FILE {suggest_see}\n")
+    yield Run(["suggest", "a.lvs", "/a"], 3, "", f"lvs suggest: the following arguments are required: NAMES-FILE {suggest_see}\n")
+    yield Run(["suggest", "-", "/a", "-"], 3, "", f"lvs suggest: standard input has either the model or the list {suggest_see}\n")
+    yield Run(["suggest", "a.lvs", "a", "none"], 3, "", "lvs: packet name 'a', character 1: a name begins with /\n")
+    for file, why in ("none.txt", "No such file or directory"), (".", "Is a directory"), ("a.lvs/b", "Not a directory"):
+        yield Run(["suggest", "a.lvs", "/", file], 3, "", f"lvs: cannot read the list {file!r}: {why}\n")
+    yield Run(["suggest", "a.lvs", "/", "a.lvs"], 3, "", "lvs: the list 'a.lvs' has a byte 0, so it is no text\n")
+    yield Run(["suggest", "a.lvs", "/", "-"], 3, "", "lvs: the list '-' is longer than 16,777,216 bytes\n", b"#" * ((1 << 24) + 1))
     yield Run(["tree"], 3, "", "lvs tree: the following arguments are required: MODEL (see lvs tree --help)\n")
     yield Run(["judge", "a.lvs", "b.lvs"], 3, "", f"lvs: unrecognized arguments: b.lvs {see}\n")
     yield Run(["judge", "--jso", "a.lvs"], 3, "", f"lvs: unrecognized arguments: --jso {see}\n")
     yield Run(["show"], 3, "", "lvs show: the following arguments are required: MODEL (see lvs show --help)\n")
-    for words in (["judge"], ["match", "/"], ["sign", "/", "/"], ["sign", "-"], ["tree"], ["show"]):
+    for words in (["judge"], ["match", "/"], ["sign", "/", "/"], ["sign", "-"], ["suggest", "/", "-"], ["tree"], ["show"]):
         for file, why in ("none.lvs", "No such file or directory"), (".", "Is a directory"), ("a.lvs/b", "Not a directory"):
             yield Run([words[0], file, *words[1:]], 3, "", f"lvs: cannot read the model {file!r}: {why}\n")
     types = "1 to 65535, or sha256digest, params-sha256, seg, off, v, t, seq (= in a value is %3D)"
@@ -670,7 +836,9 @@ def run(words, folder, given=b"", command=COMMAND, **how):
 
 
 def check_runs(folder):
-    runs = [*judge_runs(), *match_runs(), *sign_runs(), *batch_runs(), *tree_runs(), *show_runs(), *error_runs()]
+    lists = suggest_runs, refused_list_runs, long_list_runs, list_mistake_runs
+    parts = judge_runs, match_runs, sign_runs, batch_runs, *lists, tree_runs, show_runs, error_runs
+    runs = [one for part in parts for one in part()]
     with concurrent.futures.ThreadPoolExecutor(os.cpu_count()) as pool:
         found = pool.map(lambda one: run(one.words, folder, one.given), runs)
         for one, ended in zip(runs, found):
@@ -682,8 +850,8 @@ def check_runs(folder):
 def check_table():
     check("numbers with a meaning", list(refusals.REFUSALS), list(REFUSED))
     for number, words in REFUSED.items():
-        node = re.match(r"refused \d+ at node (\d+)", words)
-        check(f"refusal {number}", answers.Refused(number, int(node[1]) if node else 0).words(), words)
+        at = re.match(r"refused \d+ at (?:node|entry) (\d+)", words)
+        check(f"refusal {number}", answers.Refused(number, int(at[1]) if at else 0).words(), words)
     unknown = "refused 99: tools/lvs_command/refusals.py does not say what this number means"
     check("a number without a meaning", answers.Refused(99, 1).words(), unknown)
 
@@ -698,6 +866,17 @@ def check_uris():
         ((_, inside),) = names.elements(bytes.fromhex(data))
         texts = [names.component_uri(element(*part)) for part in names.elements(inside)]
         check(f"{uri}, written again", names.name("/" + "/".join(texts)), bytes.fromhex(data))
+
+
+def check_elements():
+    """Which bytes are one entry of a list."""
+    for text in NO_ELEMENTS:
+        check(f"{text} is no element", names.is_element(bytes.fromhex(text[2:])), False)
+    for typ in (1, 7, 8, 252, 253, 65535, 65536, 2**32 - 1):
+        for size in (0, 1, 252, 253, 65535, 65536):
+            data = element(typ, bytes(size))
+            found = [names.is_element(of) for of in (data, data[:-1], data + b"\x00")]
+            check(f"an element of type {typ} and {size} bytes, one less, one more", found, [True, False, False])
 
 
 # streams
@@ -718,6 +897,9 @@ def check_streams(folder):
         ("sign a.lvs - <&-", 3, "", "lvs: standard input is closed\n"),
         ("judge - 0>/dev/null", 3, "", "lvs: cannot read the model '-': Bad file descriptor\n"),
         ("sign a.lvs - 0>/dev/null", 3, "", "lvs: cannot read standard input: Bad file descriptor\n"),
+        ("suggest a.lvs / - <&-", 3, "", "lvs: standard input is closed\n"),
+        ("suggest a.lvs / - 0>/dev/null", 3, "", "lvs: cannot read the list '-': Bad file descriptor\n"),
+        ("suggest a.lvs / /dev/null >/dev/full", 3, "", "lvs: cannot write the answer: No space left on device\n"),
         ("show a.lvs >/dev/full", 3, "", "lvs: cannot write the answer: No space left on device\n"),
         ("show - <&-", 3, "", "lvs: standard input is closed\n"),
         ("build - x.lvs <&-", 3, "", "lvs: standard input is closed\n"),
@@ -775,7 +957,7 @@ def examples(text):
 
 def check_examples():
     help_texts = {"lvs --help": ""}
-    for command in ("judge", "match", "sign", "tree", "show", "build"):
+    for command in ("judge", "match", "sign", "suggest", "tree", "show", "build"):
         help_texts[f"lvs {command} --help"] = "example:"
     place = {**os.environ, "PATH": f"{ROOT / 'tools'}:{os.environ['PATH']}"}
     readme = (ROOT / "README.md").read_text().partition("## Run it")[2].partition("\n## ")[0]
@@ -786,7 +968,7 @@ def check_examples():
         check(words, (status, out.startswith(f"usage: {words.removesuffix(' --help')} "), part in out, err), (0, True, True, ""))
         check(f"the width of {words}", [line for line in out.splitlines() if len(line) > 95 and not line.startswith("  ")], [])
         shown += [(words, one) for one in examples(out)]
-    check("how many examples the help has", len(shown) >= 18, True)
+    check("how many examples the help has", len(shown) >= 20, True)
     with tempfile.TemporaryDirectory() as folder:  # for the files that they write
         for part in ("tools", "example"):
             os.symlink(ROOT / part, f"{folder}/{part}")
@@ -829,9 +1011,12 @@ def check_builds(folder):
     (folder / "b.lvs").write_bytes(B)
     (folder / "long.lvs").write_bytes(bytes(65537))
 
-    def judged(file="b.lvs"):
+    def answered(words, given=b""):
         place = {"PATH": f"{bin_folder}:/usr/bin:/bin"}
-        return run(["judge", file], folder, command=[sys.executable, "-S", str(folder / "tools/lvs")], env=place)
+        return run(words, folder, given, command=[sys.executable, "-S", str(folder / "tools/lvs")], env=place)
+
+    def judged(file="b.lvs"):
+        return answered(["judge", file])
 
     if not any(os.path.exists(f"{place}/rt") for place in ("/usr/bin", "/bin")):
         text = "lvs: the checker has to be built with `rt` of the Rattle toolchain, which is not in PATH\n"
@@ -866,6 +1051,23 @@ def check_builds(folder):
         programmed(program, f"cat >/dev/null; echo {line}")
         text = f"lvs: lvs_cases takes only 65,536 bytes of this input, and answers {line!r}\n"
         check(f"{line} of a cut model", judged("long.lvs"), (3, "", text))
+    for line, text in (
+        ("certificate", "lvs_cases printed 'certificate', which is no answer"),
+        ("certificate 1 2", "lvs_cases printed 'certificate 1 2', which is no answer"),
+        ("none 0", "lvs_cases printed 'none 0', which is no answer"),
+        ("certificate 2", "lvs_cases answers with entry 2, and the list has 2"),
+        ("refused 32 2", "lvs_cases answers with entry 2, and the list has 2"),
+        ("refused 33 0", "lvs_cases answers with entry 64, and the list has 2"),
+    ):
+        programmed(program, f"cat >/dev/null; echo {line}")
+        check(f"the line {line}", answered(["suggest", "b.lvs", "/a", "-"], b"/a\n/b\n"), (3, "", f"lvs: {text}\n"))
+    for line in ("certificate 0", "none", "refused 33 0"):
+        programmed(program, f"cat >/dev/null; echo {line}")
+        text = f"lvs: lvs_cases takes only 65,536 bytes of this input, and answers {line!r}\n"
+        check(f"{line} of a cut list", answered(["suggest", "b.lvs", "/a", "-"], b"/" + b"a" * 65536), (3, "", text))
+    programmed(program, "head -c 1 | grep -q C && echo refused 32 0 || echo not allowed")
+    text = "lvs: lvs_cases refuses line 1 of the list, but takes it as a key name\n"
+    check("an entry refused without a reason", answered(["suggest", "b.lvs", "/a", "-"], b"/a"), (3, "", text))
     program.write_bytes(b"no program")
     check("no program", judged(), (3, "", f"lvs: cannot run {program}: Exec format error\n"))
 
@@ -886,6 +1088,7 @@ def main_checks():
         check_builds(pathlib.Path(name).resolve())
     check_table()
     check_uris()
+    check_elements()
     check_round_trips()
     check_fault()
     check_examples()

@@ -131,6 +131,16 @@ def elements(data):
         at += size
 
 
+def is_element(data):
+    """Whether any bytes are one whole element: written anew from its type and its inside, they are the same."""
+    try:
+        typ, at = number_at(data, 0)
+        _, at = number_at(data, at)
+    except IndexError:
+        return False
+    return 1 <= typ < 1 << 32 and element(typ, data[at:]) == data
+
+
 def value_uri(value):
     return quote_from_bytes(value, safe="") if value.strip(b".") else value.decode() + "..."
 

@@ -34,7 +34,9 @@ class Refused(Answer, namedtuple("Numbers", "number node")):
         return f"refused {self.number}{f' at {row.at} {self.node}' if row.at else ''}: {row.meaning}"
 
     def object(self, labels=None):
-        return {**super().object(), "meaning": refusal(self.number).meaning}
+        row = refusal(self.number)
+        at = "index" if row.at == "entry" else "node"
+        return {"answer": self.answer, "number": self.number, at: self.node, "meaning": row.meaning}
 
 
 class Accepted(Answer, namedtuple("Numbers", "nodes")):
@@ -79,6 +81,16 @@ class NotAllowed(Answer, namedtuple("Numbers", "")):
     answer, status = "not allowed", NO
 
 
+class Certificate(Answer, namedtuple("Numbers", "index")):
+    """The entry of a list that may sign."""
+
+    answer, status = "certificate", YES
+
+
+class NoCertificate(Answer, namedtuple("Numbers", "")):
+    answer, status = "none", NO
+
+
 class Written(Answer, namedtuple("Numbers", "model")):
     """The bytes of a model."""
 
@@ -120,6 +132,10 @@ def read_answer(line):
         return Allowed(*numbers)
     if words == ["not", "allowed"]:
         return NotAllowed()
+    if words[:1] == ["certificate"] and len(numbers) == 1:
+        return Certificate(*numbers)
+    if words == ["none"]:
+        return NoCertificate()
     return no_answer(line)
 
 

@@ -29,6 +29,8 @@ class Field(NamedTuple):
 
 
 MODEL, PACKET, KEY = Field(65536, 1), Field(4096, 21), Field(4096, 24)
+LIST, MOST_ENTRIES = Field(65536, 32), 64  # a list of certificate names
+SHORTEST_ENTRY = b"\x07\x00"
 NUMBERS, TEXTS, OUTPUT = 8192, 65536, 65536  # numbers and bytes of a description, and bytes of what is written, that the driver takes
 
 
@@ -42,6 +44,20 @@ def match_case(model, name):
 
 def sign_case(model, packet, key):
     return "S", ((MODEL, model), (PACKET, packet), (KEY, key))
+
+
+def suggest_case(model, packet, entries):
+    """Each entry is one whole element. A list that is longer than the driver takes has more than 64 of them, or a long one.
+
+    More than 64 are refused with 33, whatever they are: as many of the shortest are given instead. Of up to 64 one has more than 1,024
+    bytes, so that the answer is 32 with the first entry i that is refused, and the list can be cut as other fields are. If entry i is
+    whole before the cut, the answer is the same. If not, the entries before it have at most 1,024 bytes each, so the cut is within entry
+    i: it cannot be cut off any more, which is 32 and i too.
+    """
+    data = b"".join(entries)
+    if len(data) > LIST.longest and len(entries) > MOST_ENTRIES:
+        data = SHORTEST_ENTRY * (MOST_ENTRIES + 1)
+    return "C", ((MODEL, model), (PACKET, packet), (LIST, data))
 
 
 def describe_case(model):

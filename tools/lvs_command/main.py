@@ -2,11 +2,11 @@
 import signal
 import sys
 
-from . import build, judge, match, show, sign, tree
+from . import build, judge, match, show, sign, suggest, tree
 from .errors import ERROR, Failure, say
 from .parser import Parser
 
-SUBCOMMANDS = judge, match, sign, tree, show, build
+SUBCOMMANDS = judge, match, sign, suggest, tree, show, build
 
 DESCRIPTION = "Asks and changes compiled Light VerSec (LVS) models. The answers are the proved library's."
 EPILOG = """\
@@ -15,11 +15,11 @@ MODEL is a file, or - for standard input. A name is a URI, or 0x and bytes in he
 `lvs COMMAND --help` explains a command, with an example.
 
 exit status:
-  0  accepted, matched, allowed, shown or built
-  1  no match, or not allowed
+  0  accepted, matched, allowed, suggested, shown or built
+  1  no match, not allowed, or no certificate that may sign
   2  refused: the answer has the refusal number and what it means
-  3  no answer: wrong usage, a malformed URI, a mistake in a text, a file that cannot be read or
-     written, a failed build
+  3  no answer: wrong usage, a malformed URI, a mistake in a text or a list, a file that cannot be
+     read or written, a failed build
 """
 
 

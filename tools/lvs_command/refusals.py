@@ -4,7 +4,7 @@ from typing import NamedTuple
 
 class Refusal(NamedTuple):
     meaning: str
-    at: str = ""  # what the second number counts: the node at fault. Where it is empty, that number is 0 and says nothing
+    at: str = ""  # what the second number counts: the node or the entry at fault. Where it is empty, that number is 0 and says nothing
 
 
 REFUSALS = {
@@ -29,9 +29,12 @@ REFUSALS = {
     27: Refusal("the buffer for the bindings has fewer than 256 words"),
     30: Refusal("the two lists are no description, or too short for the model's"),
     31: Refusal("the buffer for the model is too short"),
+    32: Refusal("this entry of the list is no key name: it is malformed, longer than 1,024 bytes, or has more than 32 components", "entry"),
+    33: Refusal("the list has more than 64 entries"),
 }
 
 LISTS = 30
+BAD_ENTRY, MANY_ENTRIES = 32, 33
 LAST_UNREADABLE = 3  # a model refused with this number or a lower one can't be read as nodes and edges
 
 
