@@ -23,7 +23,8 @@ use Rattle.lvs_spec.specs.Certificates.{Entry, entries, unfit, allows}
 use Rattle.lvs_spec.specs.Certificates.{SuggestAnswer, suggested, suggestFit, suggestFrom, suggestName, suggestIn, suggestAnswer}
 use Rattle.lvs_spec.proofs.Rules.{judge-few}
 use Rattle.lvs_spec.proofs.Usable.{accepted-usable, refused-unusable}
-use Rattle.lvs_spec.proofs.Lists.{clash, index-below}
+use Rattle.lvs_spec.proofs.Lists.{clash}
+use Rattle.lvs_spec.proofs.Indices.{index-below}
 use Rattle.lvs_spec.proofs.Signing.{signs-first}
 use Rattle.lvs_edges.specs.Nodes.{Walkable}
 use Rattle.lvs_edges.proofs.Ordered.{well-ordered}

@@ -1,7 +1,7 @@
--- What is demanded of the three public calls, stated and proved. Read this file first.
+-- What is demanded of the four public calls, stated and proved. Read this file first.
 --
 -- The first part ties it to the code: what a caller's proof learns of a call is generated from the call's contract in src/lib.rt, and all that
--- follows is derived from that. It holds of any bytes as model, names and buffer, since no call has a `requires`.
+-- follows is derived from that. It holds of any bytes as model, names, buffer and list, since no call has a `requires`.
 --
 -- That each call ends, and does nothing undefined, is what the check proves of every function of these crates. Nothing is assumed: the
 -- libraries rest on no axiom and declare no C function. Not covered are the compiler's back end, and the programs' input and output.
@@ -9,10 +9,10 @@
 -- The format, the walk and the refusal numbers are described in docs/format.md and defined in crates/lvs_spec/specs/; its Demands.antt has the
 -- terms used here, such as `SomeMatch`.
 use Prim.Native.Nat.{ℕ, _≤_}
-use mathlib.Core.Path.{_≡_, sym, ap, _∙_}
+use mathlib.Core.Path.{_≡_, refl, sym, ap, _∙_}
 use mathlib.Core.Logic.{_↔_}
 use mathlib.Core.Bool.{true}
-use mathlib.Core.List.{List, _++_, List·Memᴰ}
+use mathlib.Core.List.{List, _∷_, _++_, List·Memᴰ}
 use lib.ListN.{length}
 use contract.Lifetimes.{Lfts}
 use denote.Ref.{RefT, at-last}
@@ -25,26 +25,32 @@ use Rattle.lvs_spec.specs.WellFormed.{thisVersion}
 use Rattle.lvs_spec.specs.Model.{Model, modelOf}
 use Rattle.lvs_spec.specs.Verdict.{describes, reading, verdict}
 use Rattle.lvs_spec.specs.Answers.{Outcome, matchRefused, matchOutcome, signAnswer}
+use Rattle.lvs_spec.specs.Certificates.{suggestAnswer}
 use Rattle.lvs_spec.specs.Gaps.{bare, Inserted}
-use Rattle.lvs_spec.specs.Demands.{modelRefusals, matchRefusals, signRefusals, SomeMatch, NoMatch, SomeAllowed, NoneAllowed, Alike, AllRefuse, unnamed}
+use Rattle.lvs_spec.specs.Demands.{modelRefusals, matchRefusals, signRefusals, suggestRefusals, SomeMatch, NoMatch, SomeAllowed, NoneAllowed}
+use Rattle.lvs_spec.specs.Demands.{joined, FirstAllowed, NoCertificate, Alike, AllRefuse, unnamed}
 use Rattle.lvs_spec.proofs.Refusals.{verdict-number}
 use Rattle.lvs_spec.proofs.Matching.{MatchedBy, match-matched, match-some, match-none, match-number}
 use Rattle.lvs_spec.proofs.Signing.{SignedBy, sign-allowed, sign-some, sign-none, sign-number}
+use Rattle.lvs_spec.proofs.Suggesting.{suggest-number, suggest-first, suggest-none}
 use Rattle.lvs_spec.proofs.Buffer.{refused-keeps, no-match-keeps, answer-by-length}
-use Rattle.lvs_spec.proofs.Unnamed.{accepted-same}
+use Rattle.lvs_spec.proofs.Unnamed.{SameAnswers as SameDefined, accepted-same}
 use Rattle.lvs_spec.proofs.Demand3.{bare-alike, critical-refused, version-refused}
 use Rattle.lvs_spec.proofs.Optional.{optional-alike}
-use Rattle.lvs.specs.Answers.{verdictOf, matchAnswerOf, signAnswerOf}
+use Rattle.lvs.specs.Answers.{verdictOf, matchAnswerOf, signAnswerOf, suggestAnswerOf}
 use Rattle.lvs.specs.declared.Verdict.{Verdict}
 use Rattle.lvs.specs.declared.Verdict.the-variants as verdicts
 use Rattle.lvs.specs.declared.MatchAnswer.{MatchAnswer}
 use Rattle.lvs.specs.declared.MatchAnswer.the-variants as matchings
 use Rattle.lvs.specs.declared.SignAnswer.{SignAnswer}
 use Rattle.lvs.specs.declared.SignAnswer.the-variants as signings
-use Rattle.lvs.proofs.Same.{same-verdict, same-matching, same-signing}
+use Rattle.lvs.specs.declared.SuggestAnswer.{SuggestAnswer}
+use Rattle.lvs.specs.declared.SuggestAnswer.the-variants as suggestings
+use Rattle.lvs.proofs.Same.{same-verdict, same-matching, same-signing, same-suggesting}
 use Rattle.lvs.proofs.judge_model.Reads as judge-model
 use Rattle.lvs.proofs.match_name.Reads as match-name
 use Rattle.lvs.proofs.sign.Reads as sign
+use Rattle.lvs.proofs.suggest.Reads as suggest
 
 -- ---- what a caller learns
 --
@@ -76,6 +82,14 @@ pub record Signed (model packet key : List ℕ) (r : SignAnswer) : Type 0 where
   pub k : Slice
   pub learnt : sign.Learnt lives (at-last m model, (at-last p packet, (at-last k key, tt))) r (at-last m model, (at-last p packet, (at-last k key, tt)))
 
+-- a call of `suggest` answered r
+pub record Suggested (model packet list : List ℕ) (r : SuggestAnswer) : Type 0 where
+  pub lives : Lfts 2
+  pub m : Slice
+  pub p : Slice
+  pub l : Slice
+  pub learnt : suggest.Learnt lives (at-last m model, (at-last p packet, (at-last l list, tt))) r (at-last m model, (at-last p packet, (at-last l list, tt)))
+
 -- the answer of each call, and every word of the buffer after it, are those of the definitions
 pub judged-is : {model : List ℕ} {r : Verdict} → Judged model r → verdictOf r ≡ verdict model
 judged-is c = c .learnt
@@ -87,6 +101,9 @@ matched-is c = c .learnt
 pub signed-is : {model packet key : List ℕ} {r : SignAnswer} → Signed model packet key r → signAnswerOf r ≡ signAnswer model packet key
 signed-is c = c .learnt
 
+pub suggested-is : {model packet list : List ℕ} {r : SuggestAnswer} → Suggested model packet list r → suggestAnswerOf r ≡ suggestAnswer model packet list
+suggested-is c = c .learnt
+
 -- nothing is asked of a caller
 pub judge-asks-nothing : (lives : Lfts 1) (m : Slice) → judge-model.Asked lives (m, tt)
 judge-asks-nothing lives m = tt
@@ -96,6 +113,9 @@ match-asks-nothing lives m n b = tt
 
 pub sign-asks-nothing : (lives : Lfts 2) (m p k : Slice) → sign.Asked lives (m, (p, (k, tt)))
 sign-asks-nothing lives m p k = tt
+
+pub suggest-asks-nothing : (lives : Lfts 2) (m p l : Slice) → suggest.Asked lives (m, (p, (l, tt)))
+suggest-asks-nothing lives m p l = tt
 
 -- ---- the verdict call
 
@@ -173,40 +193,100 @@ module _ {model packet key : List ℕ} where
   pub first-pair : {p k : ℕ} → Signed model packet key (signings.Allowed p k) → SignedBy model packet key p k
   first-pair {p} {k} c = sign-allowed model packet key p k (sym (signed-is c))
 
--- ---- all three calls: elements that change nothing, and elements that are refused
+-- ---- the suggesting call
 
--- two models have the same matches and signing answers and leave the same words, given the same names and equal buffers
+-- what the signing call says of each certificate, one after the other: not to those before, but to the one with index i
+pub record FirstBySigning (model packet list : List ℕ) (i : ℕ) : Type 0 where
+  pub before : List (List ℕ)
+  pub key : List ℕ
+  pub behind : List (List ℕ)
+  pub list-is : list ≡ joined (before ++ (key ∷ behind))
+  pub index : length before ≡ i
+  pub earlier : {k : List ℕ} {r : SignAnswer} → List·Memᴰ k before → Signed model packet k r → r ≡ signings.NotAllowed
+  pub allowed : {r : SignAnswer} → Signed model packet key r → (p k : ℕ) × (r ≡ signings.Allowed p k)
+
+-- or not to any
+pub record NoneBySigning (model packet list : List ℕ) : Type 0 where
+  pub keys : List (List ℕ)
+  pub list-is : list ≡ joined keys
+  pub none-allowed : {k : List ℕ} {r : SignAnswer} → List·Memᴰ k keys → Signed model packet k r → r ≡ signings.NotAllowed
+
+module _ {model packet list : List ℕ} where
+  -- a refusal is one of a model, a packet name or a list
+  pub suggest-refusals : {number at : ℕ} → Suggested model packet list (suggestings.Refused number at) → List·Memᴰ number suggestRefusals
+  suggest-refusals c = suggest-number model packet list _ (sym (suggested-is c))
+
+  module _ (bytes : Bytes list) where
+    -- the answer is i exactly when certificate i of the list is allowed, as for `sign`, and none before it is
+    pub certificate-exactly : {r : SuggestAnswer} {i : ℕ} → Suggested model packet list r
+        → (r ≡ suggestings.Certificate i) ↔ FirstAllowed model packet list i
+    certificate-exactly {r} c = (
+      λ e. suggest-first model packet list bytes .0 (sym (suggested-is c) ∙ ap suggestAnswerOf e),
+      λ f. same-suggesting r _ (suggested-is c ∙ suggest-first model packet list bytes .1 f),
+    )
+
+    -- "none" exactly when none is
+    pub no-certificate-exactly : {r : SuggestAnswer} → Suggested model packet list r → (r ≡ suggestings.NoCertificate) ↔ NoCertificate model packet list
+    no-certificate-exactly {r} c = (
+      λ e. suggest-none model packet list bytes .0 (sym (suggested-is c) ∙ ap suggestAnswerOf e),
+      λ f. same-suggesting r _ (suggested-is c ∙ suggest-none model packet list bytes .1 f),
+    )
+
+    -- it is what one signing call for each certificate comes to
+    pub certificate-signs : {i : ℕ} → Suggested model packet list (suggestings.Certificate i) → FirstBySigning model packet list i
+    certificate-signs c =
+        let f = certificate-exactly c .0 refl in
+        record {
+          before = f .before;
+          key = f .key;
+          behind = f .behind;
+          list-is = f .inputs .list-is;
+          index = f .index;
+          earlier = λ {k} i s. not-allowed-exactly s .1 (f .earlier k i);
+          allowed = λ s. allowed-exactly s .1 (f .allowed);
+        }
+
+    pub no-certificate-signs : Suggested model packet list suggestings.NoCertificate → NoneBySigning model packet list
+    no-certificate-signs c =
+        let f = no-certificate-exactly c .0 refl in
+        record { keys = f .keys; list-is = f .inputs .list-is; none-allowed = λ {k} i s. not-allowed-exactly s .1 (f .none-allowed k i) }
+
+-- ---- all calls: elements that change nothing, and elements that are refused
+
+-- two models have the same matches, signing answers and suggestions and leave the same words, given the same names, equal buffers and the same list
 pub record SameAnswers (a b : List ℕ) : Type 0 where
   pub matched : {name buffer after last : List ℕ} {r q : MatchAnswer} → Matched a name buffer r after → Matched b name buffer q last
       → (r ≡ q) × (after ≡ last)
   pub signed : {packet key : List ℕ} {r q : SignAnswer} → Signed a packet key r → Signed b packet key q → r ≡ q
+  pub suggested : {packet list : List ℕ} {r q : SuggestAnswer} → Suggested a packet list r → Suggested b packet list q → r ≡ q
 
 -- and the same verdict
 pub record SameCalls (a b : List ℕ) : Type 0 where
   pub judged : {r q : Verdict} → Judged a r → Judged b q → r ≡ q
   pub answers : SameAnswers a b
 
--- all three calls refuse with this number, and leave the buffer as it is
+-- all calls refuse with this number, and leave the buffer as it is
 pub record RefusedCalls (number : ℕ) (b : List ℕ) : Type 0 where
   pub judged : {r : Verdict} → Judged b r → r ≡ verdicts.Refused number 0
   pub matched : {name buffer after : List ℕ} {r : MatchAnswer} → Matched b name buffer r after → (r ≡ matchings.Refused number 0) × (after ≡ buffer)
   pub signed : {packet key : List ℕ} {r : SignAnswer} → Signed b packet key r → r ≡ signings.Refused number 0
+  pub suggested : {packet list : List ℕ} {r : SuggestAnswer} → Suggested b packet list r → r ≡ suggestings.Refused number 0
 
-same-answers : {a b : List ℕ} → ((name buffer : List ℕ) → matchOutcome a name buffer ≡ matchOutcome b name buffer)
-    → ((packet key : List ℕ) → signAnswer a packet key ≡ signAnswer b packet key) → SameAnswers a b
-same-answers same-match same-sign =
+same-answers : {a b : List ℕ} → SameDefined a b → SameAnswers a b
+same-answers s =
     record {
       matched = λ {name} {buffer} {r = r} {q = q} c d.
-          let e = matched-is c ∙ same-match name buffer ∙ sym (matched-is d) in
+          let e = matched-is c ∙ s .matched name buffer ∙ sym (matched-is d) in
           (same-matching r q (ap (λ (o : Outcome). o .answer) e), ap (λ (o : Outcome). o .words) e);
-      signed = λ {packet} {key} {r} {q} c d. same-signing r q (signed-is c ∙ same-sign packet key ∙ sym (signed-is d));
+      signed = λ {packet} {key} {r} {q} c d. same-signing r q (signed-is c ∙ s .signed packet key ∙ sym (signed-is d));
+      suggested = λ {packet} {list} {r} {q} c d. same-suggesting r q (suggested-is c ∙ s .suggested packet list ∙ sym (suggested-is d));
     }
 
 pub same-calls : {a b : List ℕ} → Alike a b → SameCalls a b
 same-calls s =
     record {
       judged = λ {r} {q} c d. same-verdict r q (judged-is c ∙ s .verdicts ∙ sym (judged-is d));
-      answers = same-answers (s .matched) (s .signed);
+      answers = same-answers (record { matched = s .matched; signed = s .signed; suggested = s .suggested });
     }
 
 refused-calls : {n : ℕ} {b : List ℕ} → AllRefuse n b → RefusedCalls n b
@@ -218,6 +298,7 @@ refused-calls s =
           let e = matched-is c ∙ s .matched name buffer in
           (same-matching r _ (ap (λ (o : Outcome). o .answer) e), ap (λ (o : Outcome). o .words) e);
       signed = λ {packet} {key} {r} c. same-signing r _ (signed-is c ∙ s .signed packet key);
+      suggested = λ {packet} {list} {r} c. same-suggesting r _ (suggested-is c ∙ s .suggested packet list);
     }
 
 -- an optional element x in any gap changes no answer and no word, unless the model becomes too long
@@ -233,15 +314,14 @@ optional-changes-nothing b m bytes r = same-calls (bare-alike b m bytes r)
 pub texts-change-nothing : {a b : List ℕ} {i j : ℕ} → Judged a (verdicts.Accepted i) → Judged b (verdicts.Accepted j)
     → unnamed (modelOf a) ≡ unnamed (modelOf b) → SameAnswers a b
 texts-change-nothing {a} {b} {i} {j} c d e =
-    let s = accepted-same a b i j (sym (judged-is c)) (sym (judged-is d)) e in
-    same-answers (s .0) (s .1)
+    same-answers (accepted-same a b i j (sym (judged-is c)) (sym (judged-is d)) e)
 
--- a critical element x in any gap makes all three calls refuse with 2, unless the model becomes too long
+-- a critical element x in any gap makes all calls refuse with 2, unless the model becomes too long
 pub critical-refuses : (b b′ : List ℕ) (m : Model) (x : Element) → reading b ≡ describes m → meaning (x .type) ≡ critical
     → typeInRange (x .type) ≡ true → Inserted x b b′ → length b′ ≤ maxModelBytes → RefusedCalls 2 b′
 critical-refuses b b′ m x r c t i l = refused-calls (critical-refused b b′ m x r c t i l)
 
--- another version, after optional elements and before any bytes, makes all three refuse with 3, unless the model is too long
+-- another version, after optional elements and before any bytes, makes all refuse with 3, unless the model is too long
 pub other-version-refuses : (es : List Element) (v rest : List ℕ) → Each InRange es → Each (λ e. meaning (e .type) ≡ optional) es → length v ≡ 4
     → ¬ (v ≡ thisVersion)
     → let b : List ℕ = encode es ++ (elementBytes (record { type = type.Version; inside = v }) ++ rest) in length b ≤ maxModelBytes → RefusedCalls 3 b

@@ -2,13 +2,16 @@
 use mathlib.Core.Path.{_≡_, refl, sym, ap, _∙_}
 use Rattle.lvs_spec.specs.Verdict.{Verdict as Judgement}
 use Rattle.lvs_spec.specs.Answers.{MatchAnswer as Matching, SignAnswer as Signing}
-use Rattle.lvs.specs.Answers.{verdictOf, matchAnswerOf, signAnswerOf}
+use Rattle.lvs_spec.specs.Certificates.{SuggestAnswer as Suggesting}
+use Rattle.lvs.specs.Answers.{verdictOf, matchAnswerOf, signAnswerOf, suggestAnswerOf}
 use Rattle.lvs.specs.declared.Verdict.{Verdict}
 use Rattle.lvs.specs.declared.Verdict.the-variants as verdicts
 use Rattle.lvs.specs.declared.MatchAnswer.{MatchAnswer}
 use Rattle.lvs.specs.declared.MatchAnswer.the-variants as matchings
 use Rattle.lvs.specs.declared.SignAnswer.{SignAnswer}
 use Rattle.lvs.specs.declared.SignAnswer.the-variants as signings
+use Rattle.lvs.specs.declared.SuggestAnswer.{SuggestAnswer}
+use Rattle.lvs.specs.declared.SuggestAnswer.the-variants as suggestings
 
 same-back : {A B : Type 0} (f : A → B) (back : B → A) → ((a : A) → back (f a) ≡ a) → (r q : A) → f r ≡ f q → r ≡ q
 same-back f back is r q e = sym (is r) ∙ ap back e ∙ is q
@@ -52,3 +55,17 @@ signing-back (signings.Refused n i) = refl
 
 pub same-signing : (r q : SignAnswer) → signAnswerOf r ≡ signAnswerOf q → r ≡ q
 same-signing = same-back signAnswerOf signingFrom signing-back
+
+suggestingFrom : Suggesting → SuggestAnswer
+suggestingFrom (Suggesting.certificate i) = suggestings.Certificate i
+suggestingFrom Suggesting.noCertificate = suggestings.NoCertificate
+suggestingFrom (Suggesting.refused r) = suggestings.Refused (r .number) (r .at)
+
+suggesting-back : (r : SuggestAnswer) → suggestingFrom (suggestAnswerOf r) ≡ r
+unfolding suggestingFrom
+suggesting-back (suggestings.Certificate i) = refl
+suggesting-back suggestings.NoCertificate = refl
+suggesting-back (suggestings.Refused n i) = refl
+
+pub same-suggesting : (r q : SuggestAnswer) → suggestAnswerOf r ≡ suggestAnswerOf q → r ≡ q
+same-suggesting = same-back suggestAnswerOf suggestingFrom suggesting-back

@@ -22,19 +22,34 @@ pub fn answer(
     ensures { λ r. ⌜ (r .input .end ≤ 65536) × (r .used ≤ 65536) ⌝ }
 {
     let mut packet = [0u8; NAME_BYTES];
-    let first = input::take_field(space, input, &mut packet);
-    let n = first.count;
-    let middle = first.input;
-    if !first.is_whole {
-        return turn::broken(middle, used);
-    }
-    let second = input::take_field(space, middle, list);
-    let m = second.count;
-    let behind = second.input;
-    if !second.is_whole {
+    let field = input::take_field(space, input, &mut packet);
+    let n = field.count;
+    let behind = field.input;
+    if !field.is_whole {
         return turn::broken(behind, used);
     }
-    let at = put_suggestion(out, used, lvs::suggest(model, &packet[..n], &list[..m]));
+    with_packet(space, behind, model, &packet[..n], list, out, used)
+}
+
+fn with_packet(
+    space: &mut Buffer,
+    input: Input,
+    model: &[u8],
+    packet: &[u8],
+    list: &mut [u8],
+    out: &mut Buffer,
+    used: usize,
+) -> Turn
+    requires { ⌜ (input .end ≤ 65536) × (used ≤ 65536) ⌝ }
+    ensures { λ r. ⌜ (r .input .end ≤ 65536) × (r .used ≤ 65536) ⌝ }
+{
+    let field = input::take_field(space, input, list);
+    let n = field.count;
+    let behind = field.input;
+    if !field.is_whole {
+        return turn::broken(behind, used);
+    }
+    let at = put_suggestion(out, used, lvs::suggest(model, packet, &list[..n]));
     turn::whole(behind, output::put(out, at, b"\n"))
 }
 

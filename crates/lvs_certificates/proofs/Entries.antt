@@ -14,7 +14,7 @@ use Rattle.tlv.specs.declared.Place.{Place}
 use Rattle.tlv.proofs.Cuts.{Step, element-nil, cuts-end, done-nil}
 use Rattle.lvs_spec.specs.Limits.{maxCertificates}
 use Rattle.lvs_spec.specs.Certificates.{Entry, entries}
-use Rattle.lvs_spec.proofs.Lists.{index-here, index-later}
+use Rattle.lvs_spec.proofs.Indices.{index-here, index-later}
 
 -- ---- what stands at a place
 

@@ -14,13 +14,14 @@ use Rattle.lvs_spec.specs.Model.{Model}
 use Rattle.lvs_spec.specs.Names.{Component, NameReading, badName, goodName, nameReading, packetName, keyName}
 use Rattle.lvs_spec.specs.Certificates.{entries, isBad, unfit, isAllowed, allows}
 use Rattle.lvs_spec.proofs.Lists.{clash}
+use Rattle.lvs_spec.proofs.Names.{good-short}
 use Rattle.lvs_spec.proofs.Signing.{signs-first}
 use Rattle.lvs_names.specs.Rows.{rowFrom}
 use Rattle.lvs_names.specs.Answers.{nameRead}
 use Rattle.lvs_names.specs.declared.NameRead.{NameRead}
 use Rattle.lvs_names.specs.declared.NameRead.the-variants.{Good, Refused}
 use Rattle.lvs_names.proofs.Begins.{cut-is, cut-element}
-use Rattle.lvs_names.proofs.Names.{good-short, good-row}
+use Rattle.lvs_names.proofs.Names.{good-row}
 use Rattle.lvs_walk.specs.Calls.{signFound, FirstPair}
 use Rattle.lvs_walk.specs.declared.Found.{Found}
 use Rattle.lvs_walk.specs.declared.Found.the-variants.{Nothing, At}
@@ -32,7 +33,7 @@ unfit-broken = refl
 
 pub packet-short : (packet : List ℕ) {ps : List Component} → goodName ps ≡ packetName packet → length packet ≤ maxNameBytes
 unfolding packetName
-packet-short packet good = good-short packet 21 (sym good)
+packet-short packet good = good-short 21 packet (sym good)
 
 -- a rest that cannot be cut may not sign
 pub broken-not-allowed : (m : Model) (packet : List ℕ) → allows m packet none ≡ false
@@ -67,7 +68,7 @@ module _ {list : List ℕ} {at t start stop : ℕ} {p : Place} (bytes : Bytes li
     where
       go : (r : NameReading) → nameReading 24 key ≡ r → isBad r ≡ false → GoodKey
       go (badName x) e f = clash (cc)
-      go (goodName cs) e f = record { fit = fit; row = sym (good-row key 24 e (cut-element bytes st)); short = good-short key 24 e }
+      go (goodName cs) e f = record { fit = fit; row = sym (good-row key 24 e (cut-element bytes st)); short = good-short 24 key e }
 
   pub all-fit : {n : ℕ} → firstIndex unfit 0 (entries list) ≡ none → Sought unfit list at n → GoodKey
   all-fit {n} fit inv = go (unfit (entry list at t start stop)) refl

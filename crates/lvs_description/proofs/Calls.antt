@@ -113,7 +113,7 @@ module _ {ns ts before : List ℕ} where
   why-in {x = x} {m} (refused-bytes {m = m′} {r} {i} e v) h d =
       let same : m′ ≡ m = cc in
       let y : record { number = r; at = i } ≡ x = cc in
-      inl (sym (ap (λ (a : Model). verdict (modelBytes a)) same) ∙ v ∙ ap (λ (a : Refusal). Verdict.refused (a .number) (a .node)) y)
+      inl (sym (ap (λ (a : Model). verdict (modelBytes a)) same) ∙ v ∙ ap (λ (a : Refusal). Verdict.refused (a .number) (a .at)) y)
   why-in {m = m} (short-output {m = m′} {count} e v l) h d =
       let same : m′ ≡ m = cc in
       inr ((cc), count, sym (ap (λ (a : Model). verdict (modelBytes a)) same) ∙ v)

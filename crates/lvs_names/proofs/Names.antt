@@ -5,8 +5,8 @@ use mathlib.Core.Bool.{Bool, true, false, cond, _&&_}
 use mathlib.Core.List.{List, [], _∷_, foldl}
 use mathlib.Core.Option.{Option, none, some, Option·some-injective}
 use native.Mathlib.Omega.{arith}
-use borrow.Author.Tests.{eq-eqb, ne-eqb, le-leb, lt-leb, lt-ltb, le-ltb, ltb-false, eqb-true}
-use lib.Dec.{eqb, ltb}
+use borrow.Author.Tests.{eq-eqb, ne-eqb, le-leb, lt-leb, lt-ltb, le-ltb, eqb-true}
+use lib.Dec.{eqb}
 use lib.ListN.{length, take, drop, length-drop}
 use lib.Seq.{length-take-le, take-all}
 use Rattle.tlv.specs.Bytes.{Bytes}
@@ -22,6 +22,7 @@ use Rattle.lvs_spec.specs.Leaves.{isComponent}
 use Rattle.lvs_spec.specs.Model.{componentFrom, componentOf}
 use Rattle.lvs_spec.specs.Names.{Component, componentsAt, nameFrom, nameOf, badName, goodName, rowReading, nameReading}
 use Rattle.lvs_spec.proofs.Lists.{clash}
+use Rattle.lvs_spec.proofs.Names.{short-reading, good-components}
 use Rattle.lvs_names.specs.Rows.{rowAt, rowFrom}
 use Rattle.lvs_names.specs.Answers.{headerFrom, headerOf, countedFrom, countOf}
 use Rattle.lvs_names.specs.Contents.{ContentOf, RowStep}
@@ -220,8 +221,7 @@ module _ (b : List ℕ) where
 
     module _ (short : length b ≤ maxNameBytes) where
       named : {o : Option (List Component)} → nameOf b ≡ o → nameReading base b ≡ rowReading base o
-      unfolding nameReading
-      named p = rw (le-ltb maxNameBytes (length b) short, p)
+      named p = short-reading base b short ∙ ap (rowReading base) p
 
       pub headless : headerOf b ≡ 0 → nameReading base b ≡ badName (base + 1)
       unfolding rowReading
@@ -265,35 +265,14 @@ module _ (b : List ℕ) where
                 counted-is (some cs) p .1 ∙
                 rw (le-ltb maxComponents (length cs) (omega arith)) (ap goodName (sym (row-same (headerOf b) (cuts (drop (headerOf b) b)) cs p)))
 
-  -- what a good name says
-  module _ (base : ℕ) {cs : List Component} (good : nameReading base b ≡ goodName cs) where
-    pub good-short : length b ≤ maxNameBytes
-    unfolding nameReading
-    good-short = go (ltb maxNameBytes (length b)) refl
-      where
-        go : (t : Bool) → ltb maxNameBytes (length b) ≡ t → length b ≤ maxNameBytes
-        go true p = let h : badName base ≡ goodName cs = rw p at good in clash (cc)
-        go false p = ltb-false maxNameBytes (length b) p
-
-    good-some : nameOf b ≡ some cs
-    unfolding rowReading
-    good-some = go (nameOf b) refl
-      where
-        few : (ds : List Component) (t : Bool) → cond t (badName (base + 2)) (goodName ds) ≡ goodName cs → some ds ≡ some cs
-        few ds true h = clash (cc)
-        few ds false h = cc
-
-        go : (o : Option (List Component)) → nameOf b ≡ o → o ≡ some cs
-        go none p = let h : badName (base + 1) ≡ goodName cs = sym (named base good-short p) ∙ good in clash (cc)
-        go (some ds) p = few ds (ltb maxComponents (length ds)) (sym (named base good-short p) ∙ good)
-
-    -- its components start behind its header
-    pub good-row : {h : ℕ} {e : Element} → element b ≡ first h e [] → goodName (rowFrom b h) ≡ nameReading base b
-    unfolding headerOf headerFrom rowFrom
-    good-row {h} {e} p = go (eqb (e .type) type.Name && eqb (length {A = ℕ} []) 0) (rw p)
-      where
-        go : (t : Bool) → headerOf b ≡ cond t h 0 → goodName (rowFrom b h) ≡ nameReading base b
-        go true q =
-            let n = header-name (omega (arith, q, element-whole b h e [] p .some)) in
-            ap goodName (row-same h (cuts (drop h b)) cs (sym (rw q at n) ∙ good-some)) ∙ sym good
-        go false q = let n : none ≡ some cs = sym (no-header q) ∙ good-some in clash (cc)
+  -- a good name's components start behind its header
+  pub good-row : (base : ℕ) {cs : List Component} {h : ℕ} {e : Element} → nameReading base b ≡ goodName cs → element b ≡ first h e []
+      → goodName (rowFrom b h) ≡ nameReading base b
+  unfolding headerOf headerFrom rowFrom
+  good-row base {cs} {h} {e} good p = go (eqb (e .type) type.Name && eqb (length {A = ℕ} []) 0) (rw p)
+    where
+      go : (t : Bool) → headerOf b ≡ cond t h 0 → goodName (rowFrom b h) ≡ nameReading base b
+      go true q =
+          let n = header-name (omega (arith, q, element-whole b h e [] p .some)) in
+          ap goodName (row-same h (cuts (drop h b)) cs (sym (rw q at n) ∙ good-components base b good)) ∙ sym good
+      go false q = let n : none ≡ some cs = sym (no-header q) ∙ good-components base b good in clash (cc)

@@ -18,6 +18,7 @@ use Rattle.lvs_spec.specs.WellFormed.{insideOk, inOrder, wellFormedBy, w
 use Rattle.lvs_spec.specs.Model.{Model, modelOf}
 use Rattle.lvs_spec.specs.Verdict.{describes, reading, verdict}
 use Rattle.lvs_spec.specs.Answers.{matchOutcome, signAnswer}
+use Rattle.lvs_spec.specs.Certificates.{suggestAnswer}
 use Rattle.lvs_spec.specs.Gaps.{holding, bare, Inserted, here, deeper}
 use Rattle.lvs_spec.specs.Demands.{Alike}
 use Rattle.lvs_spec.proofs.Grammar.{optional-next, critical-next, known-next, goesOn, known-in-range}
@@ -134,6 +135,7 @@ alike-by e p q =
       verdicts = sym (p .verdicts) ∙ ap verdict e ∙ q .verdicts;
       matched = λ name buffer. sym (p .matched name buffer) ∙ ap (λ m. matchOutcome m name buffer) e ∙ q .matched name buffer;
       signed = λ packet key. sym (p .signed packet key) ∙ ap (λ m. signAnswer m packet key) e ∙ q .signed packet key;
+      suggested = λ packet list. sym (p .suggested packet list) ∙ ap (λ m. suggestAnswer m packet list) e ∙ q .suggested packet list;
     }
 
 -- for every model that is not refused with 1 to 3: unless it becomes too long, an optional element more changes no answer and no word

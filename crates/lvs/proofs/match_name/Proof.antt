@@ -4,8 +4,8 @@ use mathlib.Core.Path.{_≡_, refl, sym, ap, _∙_}
 use Rattle.lvs_spec.specs.Verdict.{Verdict, verdict}
 use Rattle.lvs_spec.specs.Names.{goodName, nameReading}
 use Rattle.lvs_spec.specs.Answers.{matchRefused}
+use Rattle.lvs_spec.proofs.Names.{good-short}
 use Rattle.lvs_names.specs.Answers.{nameRead}
-use Rattle.lvs_names.proofs.Names.{good-short}
 use Rattle.lvs_names.specs.Rows.{rowFrom}
 use Rattle.lvs_walk.proofs.Answers.{found-none, found-match}
 use Rattle.lvs.specs.Answers.{verdictOf}
@@ -49,7 +49,7 @@ node-places-requires c κs = let f = c .before .before .before in (walkable (beg
 find-match-requires : tie.Need-find-match-requires
 find-match-requires c κs =
     let f = c .before .before .before .before .before .before in
-    (c .before .before .node-places .ensures, (good-short (began f .args .name .now) 21 (sym (good f)), refl))
+    (c .before .before .node-places .ensures, (good-short 21 (began f .args .name .now) (sym (good f)), refl))
 
 write-words-requires : tie.Need-write-words-requires
 write-words-requires c κs =

@@ -3,8 +3,8 @@ use borrow.Author.Needs.{needs}
 use mathlib.Core.Path.{_≡_, refl, sym, ap, _∙_}
 use Rattle.lvs_spec.specs.Verdict.{Verdict, verdict}
 use Rattle.lvs_spec.specs.Names.{goodName, nameReading}
+use Rattle.lvs_spec.proofs.Names.{good-short}
 use Rattle.lvs_names.specs.Answers.{nameRead}
-use Rattle.lvs_names.proofs.Names.{good-short}
 use Rattle.lvs_names.specs.Rows.{rowFrom}
 use Rattle.lvs_walk.proofs.Answers.{found-no-pair, found-pair}
 use Rattle.lvs.specs.Answers.{verdictOf}
@@ -63,7 +63,7 @@ find-pair-requires : tie.Need-find-pair-requires
 find-pair-requires c κs =
     let k = c .before .before .before .before in
     let a = began (packet k) .args in
-    (c .before .node-places .ensures, (good-short (a .packet .now) 21 (sym (good-packet (packet k))), good-short (a .key .now) 24 (sym (good-key k))))
+    (c .before .node-places .ensures, (good-short 21 (a .packet .now) (sym (good-packet (packet k))), good-short 24 (a .key .now) (sym (good-key k))))
 
 -- the answer of the search, for the two names
 returns-4 : tie.Need-returns-4
