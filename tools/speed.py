@@ -8,10 +8,12 @@ whose first byte is wrong, which both refuse at once; of a description to write,
 the median over several turns, in each of which both programs run one after the other; its least and largest value stand after it. `a
 byte` is our instructions for each byte of the model.
 
-Below these stand the same calls without the verdict's share: the instructions that a call takes to read its two names and to walk, ours and
+Below these stand the signing calls without the verdict's share: the instructions that a call takes to read its two names and to walk, ours and
 the reference's, and those of the walk alone. The places of the Nodes, which the reference finds while it judges, are not in them; our pass
-that records them is a column of its own. For the bushy models it is the mean over pairs of names drawn evenly. The last line is the stack
-that a level of our walk takes, read off the program.
+that records them is a column of its own. For the bushy models it is the mean over pairs of names drawn evenly.
+
+Then one suggesting call with a list of 64 certificates against 64 signing calls, one for each of them, and against the reference's call. The
+last line is the stack that a level of our walk takes, read off the program.
 """
 import os
 import pathlib
@@ -164,6 +166,19 @@ def signings():
         yield from calls()
 
 
+CERTIFICATES = 64  # the most that a list has
+
+
+def suggestings():
+    """(what, model, packet name, certificate names): the last one may sign; by the model for backtracking none may"""
+    (_, model, article, author), (*_, other) = tutorial()
+    yield "64 certificates, tutorial", model, article, [other] * (CERTIFICATES - 1) + [author]
+    for calls in (long_names, many_nodes, bushy_models, backtracking):
+        for what, model, packet, key in calls():
+            other = key[:-1] + bytes([key[-1] ^ 1])
+            yield f"64 certificates, {what}", model, packet, [other] * (CERTIFICATES - 1) + [key]
+
+
 NUMBERS = 8192  # that a case may have
 NO_FLAG = 4  # the place of the first Node's flag before its Parent, among the numbers
 
@@ -278,6 +293,15 @@ def walk_row(what, cases):
           f"{walk:>12.0f}{their_walk:>12.0f}{walk / their_walk:>7.2f}{ours(PLACES):>9.0f}", flush=True)
 
 
+def suggest_row(what, model, packet, keys):
+    """One call for the list, and a signing call for each of its certificates."""
+    case = build.suggest(model, packet, b"".join(keys))
+    ours, theirs = (instructions(program, case) - instructions(program, spoiled(case)) for program in PROGRAMS)
+    signing = [build.sign(model, packet, key) for key in keys]
+    calls = sum(sign * instructions(PROGRAMS[0], b"".join(cases)) for sign, cases in ((1, signing), (-1, map(spoiled, signing))))
+    print(f"{what:<40}{ours:>12.0f}{calls:>12.0f}{ours / calls:>8.3f}{theirs:>12.0f}{ours / theirs:>8.2f}", flush=True)
+
+
 def frame():
     """Bytes of the stack for a level of the walk: its locals, the six registers that it saves, and the return address."""
     code = subprocess.run(["objdump", "-d", str(PROGRAMS[0])], capture_output=True, text=True, check=True).stdout
@@ -298,6 +322,10 @@ def main():
     for what, cases in walks():
         if wanted(what):
             walk_row(what, cases)
+    print(f"\n{'':<40}{'one call':>12}{'64 signings':>12}{'share':>8}{'reference':>12}{'ratio':>8}")
+    for what, model, packet, keys in suggestings():
+        if wanted(what):
+            suggest_row(what, model, packet, keys)
     print(f"\na level of the walk takes {frame()} bytes of the stack")
 
 
