@@ -3,7 +3,7 @@ use Prim.Native.Nat.{ℕ, _+_, _≤_, _<_}
 use mathlib.Core.Path.{_≡_, refl, sym, _∙_}
 use mathlib.Core.Bool.{Bool, true, false}
 use mathlib.Core.List.{List, _++_}
-use mathlib.Core.Option.{Option, none, some}
+use mathlib.Core.Option.{none, some}
 use native.Mathlib.Omega.{arith}
 use borrow.Author.Tests.{lt-ltb, le-ltb, ltb-false}
 use lib.Dec.{ltb}
@@ -19,13 +19,14 @@ use Rattle.lvs_spec.specs.Names.{Component, badName, goodName, nameReading, pac
 use Rattle.lvs_spec.specs.Walk.{Match, packetMatches, pairs}
 use Rattle.lvs_spec.specs.Answers.{MatchAnswer, plain, words, boundCount, matchRefused, matchFound, matchWalked, matchRoom, matchName, matchIn, matchOutcome}
 use Rattle.lvs_spec.specs.Answers.{SignAnswer, pairFound, signNames, signIn, signAnswer}
-use Rattle.lvs_spec.specs.Certificates.{Entry, entries, unfit, allows}
-use Rattle.lvs_spec.specs.Certificates.{SuggestAnswer, suggested, suggestFit, suggestFrom, suggestName, suggestIn, suggestAnswer}
+use Rattle.lvs_spec.specs.Certificates.{Entry, entries, ListReading, fitEntries, listReading}
+use Rattle.lvs_spec.specs.Certificates.{SuggestAnswer, suggestFrom, suggestName, suggestIn, suggestAnswer}
 use Rattle.lvs_spec.proofs.Rules.{judge-few}
 use Rattle.lvs_spec.proofs.Usable.{accepted-usable, refused-unusable}
 use Rattle.lvs_spec.proofs.Lists.{clash}
 use Rattle.lvs_spec.proofs.Indices.{index-below}
 use Rattle.lvs_spec.proofs.Signing.{signs-first}
+use Rattle.lvs_spec.proofs.Suggesting.{reading-fit}
 use Rattle.lvs_edges.specs.Nodes.{Walkable}
 use Rattle.lvs_edges.proofs.Ordered.{well-ordered}
 
@@ -131,11 +132,6 @@ module _ (b packet key : List ℕ) where
 
 -- ---- the suggesting call
 
--- no refusal comes before 32
-pub record NotMany (b packet list : List ℕ) : Type 0 where
-  goes-on : suggestAnswer b packet list ≡ suggestFit (modelOf b) packet (entries list) (firstIndex unfit 0 (entries list))
-  few : length (entries list) ≤ maxCertificates
-
 module _ (b packet list : List ℕ) where
   pub suggest-refused : {r i : ℕ} → verdict b ≡ Verdict.refused r i → suggestAnswer b packet list ≡ SuggestAnswer.refused (record { number = r; at = i })
   unfolding suggestAnswer suggestIn
@@ -146,31 +142,13 @@ module _ (b packet list : List ℕ) where
     unfolding suggestAnswer suggestIn suggestName packetName
     suggest-bad-packet h = rw (accepted-usable b n accepted, ← h)
 
-    module _ {ps : List Component} {many : Bool} (good : goodName ps ≡ nameReading 21 packet)
-        (tested : many ≡ ltb maxCertificates (length (entries list))) where
-      listed : suggestAnswer b packet list ≡ suggestFrom (modelOf b) packet (entries list) many
-      unfolding suggestAnswer suggestIn suggestName packetName
-      listed = rw (accepted-usable b n accepted, ← good, ← tested)
+    -- the list is read, and this is its reading
+    pub suggest-listed : {ps : List Component} {l : ListReading} → goodName ps ≡ nameReading 21 packet → l ≡ listReading (entries list)
+        → suggestAnswer b packet list ≡ suggestFrom (modelOf b) packet (entries list) l
+    unfolding suggestAnswer suggestIn suggestName packetName
+    suggest-listed good read = rw (accepted-usable b n accepted, ← good, ← read)
 
-      pub suggest-many : many ≡ true → suggestAnswer b packet list ≡ SuggestAnswer.refused (plain 33)
-      unfolding suggestFrom
-      suggest-many e = listed ∙ rw e
-
-      pub not-many : many ≡ false → NotMany b packet list
-      unfolding suggestFrom
-      not-many e = record { goes-on = listed ∙ rw e; few = ltb-false maxCertificates (length (entries list)) (sym tested ∙ e) }
-
-module _ {b packet list : List ℕ} (tested : NotMany b packet list) where
-  -- an index fits into a word
-  pub index-few : (f : Entry → Bool) {i : ℕ} → some i ≡ firstIndex f 0 (entries list) → i < maxCertificates
-  index-few f e = omega (arith, index-below f 0 (entries list) (sym e), tested .few)
-
-  pub suggest-unfit : {i : ℕ} → some i ≡ firstIndex unfit 0 (entries list)
-      → suggestAnswer b packet list ≡ SuggestAnswer.refused (record { number = 32; at = i })
-  unfolding suggestFit
-  suggest-unfit e = tested .goes-on ∙ rw (← e)
-
-  pub suggest-found : {o : Option ℕ} → none ≡ firstIndex unfit 0 (entries list) → o ≡ firstIndex (allows (modelOf b) packet) 0 (entries list)
-      → suggestAnswer b packet list ≡ suggested o
-  unfolding suggestFit
-  suggest-found e h = tested .goes-on ∙ rw (← e, ← h)
+-- an index fits into a word
+pub index-few : (f : Entry → Bool) (list : List ℕ) {i : ℕ} → fitEntries ≡ listReading (entries list) → some i ≡ firstIndex f 0 (entries list)
+    → i < maxCertificates
+index-few f list read e = omega (arith, index-below f 0 (entries list) (sym e), reading-fit (entries list) (sym read) .few)

@@ -6,6 +6,7 @@ ghost use Rattle.lvs_spec.specs.Certificates.{suggestAnswer};
 ghost use Rattle.lvs.specs.Answers.{verdictOf, matchAnswerOf, signAnswerOf, suggestAnswerOf};
 use lvs_bindings::SLOT_WORDS;
 use lvs_certificates::Index;
+use lvs_certificates::ListRead;
 use lvs_edges::nodes::PLACE_WORDS;
 use lvs_grammar::Reading;
 use lvs_names::KEY_REFUSALS;
@@ -125,25 +126,23 @@ pub fn suggest<'a>(model: &[u8], packet: &'a [u8], list: &'a [u8]) -> SuggestAns
     }
     match lvs_names::read_name(packet, PACKET_REFUSALS) {
         NameRead::Refused(number) => SuggestAnswer::Refused { number, at: 0 },
-        NameRead::Good(from) => {
-            if lvs_certificates::too_many(list) {
-                return SuggestAnswer::Refused {
-                    number: MANY_CERTIFICATES,
-                    at: 0,
-                };
+        NameRead::Good(from) => match lvs_certificates::read_list(list) {
+            ListRead::TooMany => SuggestAnswer::Refused {
+                number: MANY_CERTIFICATES,
+                at: 0,
+            },
+            ListRead::Unfit(at) => SuggestAnswer::Refused {
+                number: UNFIT_CERTIFICATE,
+                at,
+            },
+            ListRead::Fit => {
+                let mut places = [0u32; PLACE_WORDS];
+                lvs_edges::nodes::node_places(model, &mut places);
+                match lvs_certificates::first_allowed(model, &places, packet, from, list) {
+                    Index::At(i) => SuggestAnswer::Certificate { index: i as u32 },
+                    Index::Nowhere => SuggestAnswer::NoCertificate,
+                }
             }
-            if let Index::At(i) = lvs_certificates::first_unfit(list) {
-                return SuggestAnswer::Refused {
-                    number: UNFIT_CERTIFICATE,
-                    at: i as u32,
-                };
-            }
-            let mut places = [0u32; PLACE_WORDS];
-            lvs_edges::nodes::node_places(model, &mut places);
-            match lvs_certificates::first_allowed(model, &places, packet, from, list) {
-                Index::At(i) => SuggestAnswer::Certificate { index: i as u32 },
-                Index::Nowhere => SuggestAnswer::NoCertificate,
-            }
-        }
+        },
     }
 }

@@ -3,7 +3,7 @@ use Prim.Native.Nat.{ℕ, _+_, _-_, _≤_, _<_}
 use mathlib.Core.Path.{_≡_, refl, sym, ap, _∙_}
 use mathlib.Core.Bool.{Bool, true, false}
 use mathlib.Core.List.{List, [], _∷_}
-use mathlib.Core.Option.{none, some}
+use mathlib.Core.Option.{Option, none, some}
 use native.Mathlib.Omega.{arith}
 use borrow.Author.Tests.{lt-ltb, le-ltb, ltb-true, ltb-false}
 use lib.Dec.{ltb}
@@ -13,8 +13,8 @@ use Rattle.tlv.specs.Lists.{firstIndex}
 use Rattle.tlv.specs.declared.Place.{Place}
 use Rattle.tlv.proofs.Cuts.{Step, element-nil, cuts-end, done-nil}
 use Rattle.lvs_spec.specs.Limits.{maxCertificates}
-use Rattle.lvs_spec.specs.Certificates.{Entry, entries}
-use Rattle.lvs_spec.proofs.Indices.{index-here, index-later}
+use Rattle.lvs_spec.specs.Certificates.{Entry, entries, unfit, manyEntries, unfitEntry, fitEntries, fitness, listReading}
+use Rattle.lvs_spec.proofs.Indices.{index-here, index-later, index-below}
 
 -- ---- what stands at a place
 
@@ -128,3 +128,27 @@ module _ {f : Entry → Bool} {list : List ℕ} {at n : ℕ} (inv : Sought f lis
           is = inv .is ∙ rw (entries-next list at st) (index-later f n (entries (drop (p .at) list)) e);
           few = omega (arith, inv .few, st .before, st .order, st .moved);
         }
+
+-- ---- the tests of the whole list
+
+module _ (list : List ℕ) {many : Bool} (tested : many ≡ ltb maxCertificates (length (entries list))) where
+  pub read-many : many ≡ true → manyEntries ≡ listReading (entries list)
+  unfolding listReading
+  read-many e = sym (rw (← tested, e))
+
+  module _ {o : Option ℕ} (few : many ≡ false) (found : o ≡ firstIndex unfit 0 (entries list)) where
+    read-few : fitness o ≡ listReading (entries list)
+    unfolding listReading
+    read-few = sym (rw (← tested, few, ← found))
+
+    pub read-unfit : {i : ℕ} → o ≡ some i → unfitEntry i ≡ listReading (entries list)
+    unfolding fitness
+    read-unfit e = sym (ap fitness e) ∙ read-few
+
+    pub read-fit : o ≡ none → fitEntries ≡ listReading (entries list)
+    unfolding fitness
+    read-fit e = sym (ap fitness e) ∙ read-few
+
+    -- an index fits into a word
+    pub unfit-below : {i : ℕ} → o ≡ some i → i < maxCertificates
+    unfit-below e = omega (arith, index-below unfit 0 (entries list) (sym found ∙ e), ltb-false maxCertificates (length (entries list)) (sym tested ∙ few))

@@ -6,16 +6,16 @@ use mathlib.Core.List.{List}
 use mathlib.Core.Option.{none}
 use lib.ListN.{length, take, drop}
 use Rattle.tlv.specs.Bytes.{Bytes}
-use Rattle.tlv.specs.Lists.{firstIndex}
 use Rattle.tlv.specs.declared.Place.{Place}
 use Rattle.tlv.proofs.Cuts.{Step}
 use Rattle.lvs_spec.specs.Limits.{maxNameBytes}
 use Rattle.lvs_spec.specs.Model.{Model}
 use Rattle.lvs_spec.specs.Names.{Component, NameReading, badName, goodName, nameReading, packetName, keyName}
-use Rattle.lvs_spec.specs.Certificates.{entries, isBad, unfit, isAllowed, allows}
+use Rattle.lvs_spec.specs.Certificates.{entries, isBad, unfit, fitEntries, listReading, isAllowed, allows}
 use Rattle.lvs_spec.proofs.Lists.{clash}
 use Rattle.lvs_spec.proofs.Names.{good-short}
 use Rattle.lvs_spec.proofs.Signing.{signs-first}
+use Rattle.lvs_spec.proofs.Suggesting.{reading-fit}
 use Rattle.lvs_names.specs.Rows.{rowFrom}
 use Rattle.lvs_names.specs.Answers.{nameRead}
 use Rattle.lvs_names.specs.declared.NameRead.{NameRead}
@@ -70,11 +70,11 @@ module _ {list : List ℕ} {at t start stop : ℕ} {p : Place} (bytes : Bytes li
       go (badName x) e f = clash (cc)
       go (goodName cs) e f = record { fit = fit; row = sym (good-row key 24 e (cut-element bytes st)); short = good-short 24 key e }
 
-  pub all-fit : {n : ℕ} → firstIndex unfit 0 (entries list) ≡ none → Sought unfit list at n → GoodKey
-  all-fit {n} fit inv = go (unfit (entry list at t start stop)) refl
+  pub all-fit : {n : ℕ} → listReading (entries list) ≡ fitEntries → Sought unfit list at n → GoodKey
+  all-fit {n} read inv = go (unfit (entry list at t start stop)) refl
     where
       go : (t′ : Bool) → unfit (entry list at t start stop) ≡ t′ → GoodKey
-      go true e = let z = sought-here inv st e ∙ fit in clash (cc)
+      go true e = let z = sought-here inv st e ∙ reading-fit (entries list) read .fit in clash (cc)
       go false e = good-key e
 
   -- it may sign where the search found a pair

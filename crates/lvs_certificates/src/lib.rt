@@ -1,19 +1,18 @@
 // A list of certificate names, laid end to end (docs/format.md, 8.4), read at its places and never copied.
 //
 // A layer below the public calls: any bytes may be the list. `requires` of the search asks for what the calls have tested before: that the
-// entries are names, that the packet's name is good, and for places that `node_places` has filled.
+// list is fit, that the packet's name is good, and for places that `node_places` has filled.
 ghost use mathlib.Core.Path.{_≡_};
-ghost use mathlib.Core.Option.{none};
 ghost use lib.Dec.{ltb};
 ghost use lib.ListN.{length};
 ghost use Rattle.tlv.specs.Lists.{firstIndex};
 ghost use Rattle.lvs_spec.specs.Limits.{maxCertificates};
 ghost use Rattle.lvs_spec.specs.Model.{modelOf};
 ghost use Rattle.lvs_spec.specs.Names.{goodName, packetName};
-ghost use Rattle.lvs_spec.specs.Certificates.{entries, unfit, allows};
+ghost use Rattle.lvs_spec.specs.Certificates.{entries, unfit, fitEntries, listReading, allows};
 ghost use Rattle.lvs_names.specs.Rows.{rowFrom};
 ghost use Rattle.lvs_edges.specs.Nodes.{NodesAt};
-ghost use Rattle.lvs_certificates.specs.Answers.{indexOf};
+ghost use Rattle.lvs_certificates.specs.Answers.{indexOf, listRead};
 use lvs_edges::nodes::PLACE_WORDS;
 use lvs_names::KEY_REFUSALS;
 use lvs_names::NameRead;
@@ -28,8 +27,29 @@ pub enum Index {
     Nowhere,
 }
 
+// What a list is before it is searched.
+pub enum ListRead {
+    Fit,
+    TooMany,
+    // The index of an entry.
+    Unfit(u32),
+}
+
+// Tests the whole list.
+pub fn read_list(list: &[u8]) -> ListRead
+    ensures { λ r. ⌜ listRead r ≡ listReading (entries (now (list .entry))) ⌝ }
+{
+    if too_many(list) {
+        return ListRead::TooMany;
+    }
+    match first_unfit(list) {
+        Index::At(i) => ListRead::Unfit(i as u32),
+        Index::Nowhere => ListRead::Fit,
+    }
+}
+
 // Whether bytes are left after 64 entries have been cut off.
-pub fn too_many(list: &[u8]) -> bool
+fn too_many(list: &[u8]) -> bool
     ensures { λ r. ⌜ r ≡ ltb maxCertificates (length (entries (now (list .entry)))) ⌝ }
 {
     let mut place = Place { at: 0 };
@@ -57,7 +77,7 @@ pub fn too_many(list: &[u8]) -> bool
 }
 
 // The first entry that cannot be cut or is no key name.
-pub fn first_unfit(list: &[u8]) -> Index
+fn first_unfit(list: &[u8]) -> Index
     ensures { λ r. ⌜ indexOf r ≡ firstIndex unfit 0 (entries (now (list .entry))) ⌝ }
 {
     let mut place = Place { at: 0 };
@@ -97,7 +117,7 @@ pub fn first_allowed<'a>(
     list: &'a [u8],
 ) -> Index
     requires { ⌜ NodesAt (now model) (now places) ⌝ }
-    requires { ⌜ (goodName (rowFrom (now packet) from) ≡ packetName (now packet)) × (firstIndex unfit 0 (entries (now list)) ≡ none) ⌝ }
+    requires { ⌜ (goodName (rowFrom (now packet) from) ≡ packetName (now packet)) × (listReading (entries (now list)) ≡ fitEntries) ⌝ }
     ensures { λ r. ⌜ indexOf r ≡ firstIndex (allows (modelOf (now (model .entry))) (now (packet .entry))) 0 (entries (now (list .entry))) ⌝ }
 {
     let mut place = Place { at: 0 };

@@ -1,8 +1,8 @@
 -- The suggesting call: an index is answered exactly when that certificate is the first that is allowed, and "none" exactly when none is. Assumes nothing.
-use Prim.Native.Nat.{ℕ, _+_}
+use Prim.Native.Nat.{ℕ, _+_, _≤_}
 use mathlib.Core.Path.{_≡_, refl, sym, ap, _∙_, subst, fun-ext}
 use mathlib.Core.Logic.{_↔_}
-use mathlib.Core.Bool.{Bool, true, false}
+use mathlib.Core.Bool.{Bool, true, false, cond}
 use mathlib.Core.List.{List, [], _∷_, _++_, map, append-nil, List·Memᴰ, List·Memᴰ·head, List·Memᴰ·tail, Memᴰ·append-left, Memᴰ·append-right}
 use mathlib.Core.Option.{Option, none, some}
 use native.Mathlib.Omega.{arith}
@@ -21,7 +21,7 @@ use Rattle.lvs_spec.specs.Names.{Component, NameReading, badName, goodNa
 use Rattle.lvs_spec.specs.Walk.{Pair, pairs}
 use Rattle.lvs_spec.specs.Answers.{Refusal, Usable, unusable, usable, usableModel, SignAnswer, notAllowed, allowed, pairFound, signIn, signAnswer}
 use Rattle.lvs_spec.specs.Certificates.{Entry, entries, isBad, unfit, isAllowed, allows, SuggestAnswer, noCertificate, certificate, suggested}
-use Rattle.lvs_spec.specs.Certificates.{suggestFit, suggestFrom, suggestName, suggestIn, suggestAnswer}
+use Rattle.lvs_spec.specs.Certificates.{ListReading, manyEntries, unfitEntry, fitEntries, fitness, listReading, suggestFrom, suggestName, suggestIn, suggestAnswer}
 use Rattle.lvs_spec.specs.Demands.{modelRefusals, packetRefusals, listRefusals, suggestRefusals, joined, SuggestInputs, FirstAllowed, NoCertificate}
 use Rattle.lvs_spec.specs.Demands.{SomeAllowed, NoneAllowed}
 use Rattle.lvs_spec.proofs.Lists.{clash}
@@ -30,19 +30,38 @@ use Rattle.lvs_spec.proofs.Names.{good-element}
 use Rattle.lvs_spec.proofs.Refusals.{unusable-number, packet-number}
 use Rattle.lvs_spec.proofs.Signing.{signs-first, sign-some, sign-none}
 
+-- ---- a list that is searched
+
+-- it has no more than 64 entries, none of them unfit
+pub record Fit (es : List Entry) : Type 0 where
+  pub few : length es ≤ maxCertificates
+  pub fit : firstIndex unfit 0 es ≡ none
+
+pub reading-fit : (es : List Entry) → listReading es ≡ fitEntries → Fit es
+unfolding listReading fitness
+reading-fit es h = go (ltb maxCertificates (length es)) (firstIndex unfit 0 es) refl refl h
+  where
+    go : (t : Bool) (o : Option ℕ) → ltb maxCertificates (length es) ≡ t → firstIndex unfit 0 es ≡ o → cond t manyEntries (fitness o) ≡ fitEntries → Fit es
+    go true o p q h = clash (cc)
+    go false (some i) p q h = clash (cc)
+    go false none p q h = record { few = ltb-false maxCertificates (length es) p; fit = q }
+
+fit-reading : (es : List Entry) → Fit es → listReading es ≡ fitEntries
+unfolding listReading fitness
+fit-reading es f = rw (le-ltb maxCertificates (length es) (f .few), f .fit)
+
 -- ---- how a call ends
 
 -- it goes on with the search: no rule refuses the inputs
 record Searched (b packet list : List ℕ) (m : Model) (ps : List Component) : Type 0 where
   usable-is : usableModel b ≡ usable m
   packet-good : packetName packet ≡ goodName ps
-  not-many : ltb maxCertificates (length (entries list)) ≡ false
-  fit : firstIndex unfit 0 (entries list) ≡ none
+  list-fit : listReading (entries list) ≡ fitEntries
 
 searched-is : {b packet list : List ℕ} {m : Model} {ps : List Component} → Searched b packet list m ps
     → suggestAnswer b packet list ≡ suggested (firstIndex (allows m packet) 0 (entries list))
-unfolding suggestAnswer suggestIn suggestName suggestFrom suggestFit
-searched-is s = rw (s .usable-is) (rw (s .packet-good) (rw (s .not-many) (rw (s .fit))))
+unfolding suggestAnswer suggestIn suggestName suggestFrom
+searched-is s = rw (s .usable-is) (rw (s .packet-good) (rw (s .list-fit)))
 
 data Ended (b packet list : List ℕ) : SuggestAnswer → Type 0 where
   refusing : (r : Refusal) → List·Memᴰ (r .number) suggestRefusals → Ended b packet list (SuggestAnswer.refused r)
@@ -50,24 +69,22 @@ data Ended (b packet list : List ℕ) : SuggestAnswer → Type 0 where
       → Ended b packet list (suggested o)
 
 ended : (b packet list : List ℕ) → Ended b packet list (suggestAnswer b packet list)
-unfolding suggestAnswer suggestIn suggestName suggestFrom suggestFit
-ended b packet list =
-    go (usableModel b) (packetName packet) (ltb maxCertificates (length (entries list))) (firstIndex unfit 0 (entries list)) refl refl refl refl
+unfolding suggestAnswer suggestIn suggestName suggestFrom
+ended b packet list = go (usableModel b) (packetName packet) (listReading (entries list)) refl refl refl
   where
     of-list : {r : ℕ} → List·Memᴰ r listRefusals → List·Memᴰ r suggestRefusals
     of-list i = Memᴰ·append-right modelRefusals (Memᴰ·append-right packetRefusals i)
 
-    go : (u : Usable) (r : NameReading) (t : Bool) (o : Option ℕ) → usableModel b ≡ u → packetName packet ≡ r
-        → ltb maxCertificates (length (entries list)) ≡ t → firstIndex unfit 0 (entries list) ≡ o → Ended b packet list (suggestAnswer b packet list)
-    go (unusable x) r t o eu er et eo = rw (eu, suggestAnswer) (refusing x (Memᴰ·append-left _ (unusable-number b eu)))
-    go (usable m) (badName x) t o eu er et eo =
+    go : (u : Usable) (r : NameReading) (l : ListReading) → usableModel b ≡ u → packetName packet ≡ r → listReading (entries list) ≡ l
+        → Ended b packet list (suggestAnswer b packet list)
+    go (unusable x) r l eu er el = rw (eu, suggestAnswer) (refusing x (Memᴰ·append-left _ (unusable-number b eu)))
+    go (usable m) (badName x) l eu er el =
         rw (eu, suggestAnswer) (rw er (refusing _ (Memᴰ·append-right modelRefusals (Memᴰ·append-left listRefusals (packet-number packet er)))))
-    go (usable m) (goodName ps) true o eu er et eo =
-        rw (eu, suggestAnswer) (rw er (rw et (refusing _ (of-list (List·Memᴰ·tail (List·Memᴰ·head refl))))))
-    go (usable m) (goodName ps) false (some i) eu er et eo =
-        rw (eu, suggestAnswer) (rw er (rw et (rw eo (refusing _ (of-list (List·Memᴰ·head refl))))))
-    go (usable m) (goodName ps) false none eu er et eo =
-        let s : Searched b packet list m ps = record { usable-is = eu; packet-good = er; not-many = et; fit = eo } in
+    go (usable m) (goodName ps) manyEntries eu er el =
+        rw (eu, suggestAnswer) (rw er (rw el (refusing _ (of-list (List·Memᴰ·tail (List·Memᴰ·head refl))))))
+    go (usable m) (goodName ps) (unfitEntry i) eu er el = rw (eu, suggestAnswer) (rw er (rw el (refusing _ (of-list (List·Memᴰ·head refl)))))
+    go (usable m) (goodName ps) fitEntries eu er el =
+        let s : Searched b packet list m ps = record { usable-is = eu; packet-good = er; list-fit = el } in
         rw (searched-is s) (searching s refl)
 
 -- a refusal is one of an input that the call takes
@@ -166,14 +183,15 @@ module _ {b packet list : List ℕ} {m : Model} {ps : List Component} (bytes : B
       record {
         usable-is = g .usable-is;
         packet-good = g .packet-good;
-        not-many = le-ltb maxCertificates (length (entries list)) (omega (arith, cut-count c, g .few));
-        fit = unfit-keys c ∙ none-index badKey 0 keys (λ k i. rw (g .keys-good k i .1));
+        list-fit = fit-reading (entries list)
+            (record { few = omega (arith, cut-count c, g .few); fit = unfit-keys c ∙ none-index badKey 0 keys (λ k i. rw (g .keys-good k i .1)) });
       }
 
   searched-inputs : Searched b packet list m ps → (keys : List (List ℕ)) × Cut list keys × SuggestInputs b packet list m ps keys
   unfolding entries badKey
   searched-inputs s =
-      let (els, p) = fit-cut 0 (cuts list) (s .fit) in
+      let f = reading-fit (entries list) (s .list-fit) in
+      let (els, p) = fit-cut 0 (cuts list) (f .fit) in
       let keys : List (List ℕ) = map elementBytes els in
       let c : Cut list keys = record { els = els; keys-are = refl; entries-are = ap pieces p ∙ pieces-nexts els } in (
         keys,
@@ -182,8 +200,8 @@ module _ {b packet list : List ℕ} {m : Model} {ps : List Component} (bytes : B
           usable-is = s .usable-is;
           packet-good = s .packet-good;
           list-is = sym (joined-encode els ∙ encode-split list bytes els (split-nexts list els p));
-          few = omega (arith, cut-count c, ltb-false maxCertificates (length (entries list)) (s .not-many));
-          keys-good = λ k i. good k (keyName k) refl (index-none badKey 0 keys (sym (unfit-keys c) ∙ s .fit) k i);
+          few = omega (arith, cut-count c, f .few);
+          keys-good = λ k i. good k (keyName k) refl (index-none badKey 0 keys (sym (unfit-keys c) ∙ f .fit) k i);
         },
       )
     where

@@ -1,6 +1,6 @@
 -- What the suggesting call answers (docs/format.md, 8.4): the first certificate of a list that may sign a packet.
 use Prim.Native.Nat.{ℕ}
-use mathlib.Core.Bool.{Bool, true, false}
+use mathlib.Core.Bool.{Bool, true, false, cond}
 use mathlib.Core.List.{List}
 use mathlib.Core.Option.{Option, none, some}
 use lib.Dec.{ltb}
@@ -29,12 +29,26 @@ unfoldable pub unfit : Entry → Bool
 unfit none = true
 unfit (some e) = isBad (keyName (elementBytes e))
 
+-- what a list comes to before the search: it has bytes left after 64 entries, be it that they cannot be cut; or an entry is unfit
+pub data ListReading : Type 0 where
+  manyEntries : ListReading
+  unfitEntry : (index : ℕ) → ListReading
+  fitEntries : ListReading
+
+unfoldable pub fitness : Option ℕ → ListReading
+fitness none = fitEntries
+fitness (some i) = unfitEntry i
+
+-- the first is tested before the second
+unfoldable pub listReading : List Entry → ListReading
+listReading es = cond (ltb maxCertificates (length es)) manyEntries (fitness (firstIndex unfit 0 es))
+
 abbrev pub isAllowed : SignAnswer → Bool
 isAllowed (SignAnswer.refused r) = false
 isAllowed notAllowed = false
 isAllowed (allowed p k) = true
 
--- the signing answer allows it as the key name
+-- the signing answer allows an entry as the key name
 unfoldable pub allows : Model → List ℕ → Entry → Bool
 allows m packet none = false
 allows m packet (some e) = isAllowed (signIn (usable m) packet (elementBytes e))
@@ -48,19 +62,14 @@ unfoldable pub suggested : Option ℕ → SuggestAnswer
 suggested none = noCertificate
 suggested (some i) = certificate i
 
--- 32 names the entry; without one the whole list is fit, and the first that is allowed is answered
-unfoldable pub suggestFit : Model → List ℕ → List Entry → Option ℕ → SuggestAnswer
-suggestFit m packet es (some i) = SuggestAnswer.refused (record { number = 32; at = i })
-suggestFit m packet es none = suggested (firstIndex (allows m packet) 0 es)
-
--- 33 is tested before 32: bytes are left after 64 entries, be it that they cannot be cut
-unfoldable pub suggestFrom : Model → List ℕ → List Entry → Bool → SuggestAnswer
-suggestFrom m packet es true = SuggestAnswer.refused (plain 33)
-suggestFrom m packet es false = suggestFit m packet es (firstIndex unfit 0 es)
+unfoldable pub suggestFrom : Model → List ℕ → List Entry → ListReading → SuggestAnswer
+suggestFrom m packet es manyEntries = SuggestAnswer.refused (plain 33)
+suggestFrom m packet es (unfitEntry i) = SuggestAnswer.refused (record { number = 32; at = i })
+suggestFrom m packet es fitEntries = suggested (firstIndex (allows m packet) 0 es)
 
 unfoldable pub suggestName : Model → List ℕ → NameReading → List Entry → SuggestAnswer
 suggestName m packet (badName r) es = SuggestAnswer.refused (plain r)
-suggestName m packet (goodName cs) es = suggestFrom m packet es (ltb maxCertificates (length es))
+suggestName m packet (goodName cs) es = suggestFrom m packet es (listReading es)
 
 unfoldable pub suggestIn : Usable → List ℕ → List ℕ → SuggestAnswer
 suggestIn (unusable r) packet list = SuggestAnswer.refused r
