@@ -101,7 +101,7 @@ fn first_unfit(list: &[u8]) -> Index
                 return Index::Nowhere;
             }
             Read::Malformed => {
-                return Index::At(n);
+                return Index::At(n); // a rest that cannot be cut
             }
         }
     }
@@ -121,7 +121,7 @@ pub fn first_allowed<'a>(
     ensures { λ r. ⌜ indexOf r ≡ firstIndex (allows (modelOf (now (model .entry))) (now (packet .entry))) 0 (entries (now (list .entry))) ⌝ }
 {
     let mut place = Place { at: 0 };
-    let mut n: usize = 0;
+    let mut index: usize = 0;
     loop {
         let at = place.at;
         match place.element(list) {
@@ -134,10 +134,10 @@ pub fn first_allowed<'a>(
                 let key = &list[at..end];
                 let pair = lvs_walk::find_pair(model, places, packet, from, key, start - at);
                 if let Found::At(_, _) = pair {
-                    return Index::At(n);
+                    return Index::At(index);
                 }
                 place = next;
-                n += 1;
+                index += 1;
             }
             Read::End => {
                 return Index::Nowhere;

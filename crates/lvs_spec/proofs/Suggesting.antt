@@ -21,7 +21,8 @@ use Rattle.lvs_spec.specs.Names.{Component, NameReading, badName, goodNa
 use Rattle.lvs_spec.specs.Walk.{Pair, pairs}
 use Rattle.lvs_spec.specs.Answers.{Refusal, Usable, unusable, usable, usableModel, SignAnswer, notAllowed, allowed, pairFound, signIn, signAnswer}
 use Rattle.lvs_spec.specs.Certificates.{Entry, entries, isBad, unfit, isAllowed, allows, SuggestAnswer, noCertificate, certificate, suggested}
-use Rattle.lvs_spec.specs.Certificates.{ListReading, manyEntries, unfitEntry, fitEntries, fitness, listReading, suggestFrom, suggestName, suggestIn, suggestAnswer}
+use Rattle.lvs_spec.specs.Certificates.{ListReading, manyEntries, unfitEntry, fitEntries, fitness, listReading}
+use Rattle.lvs_spec.specs.Certificates.{suggestFrom, suggestName, suggestIn, suggestAnswer}
 use Rattle.lvs_spec.specs.Demands.{modelRefusals, packetRefusals, listRefusals, suggestRefusals, joined, SuggestInputs, FirstAllowed, NoCertificate}
 use Rattle.lvs_spec.specs.Demands.{SomeAllowed, NoneAllowed}
 use Rattle.lvs_spec.proofs.Lists.{clash}

@@ -1,4 +1,5 @@
--- `lvs_certificates::first_allowed` meets its contract. The invariant: none of the n entries before the place may sign. Assumes nothing.
+-- `lvs_certificates::first_allowed` meets its contract. The invariant: none of the entries before the place may sign, as many as the index.
+-- Assumes nothing.
 use borrow.Author.Needs.{needs}
 use native.Mathlib.Omega.{arith}
 use Prim.Native.Nat.{_-_}
@@ -13,10 +14,11 @@ use Rattle.lvs_certificates.proofs.first_allowed.Statement.{statement}
 use Rattle.lvs_certificates.proofs.first_allowed.Tie as tie
 
 abbrev Inv : tie.InvT-loop
-Inv model places packet from list place₀ n₀ place n = Sought (allows (modelOf model) packet) list (place .at) n × Sought unfit list (place .at) n
+Inv model places packet from list place₀ index₀ place index =
+    Sought (allows (modelOf model) packet) list (place .at) index × Sought unfit list (place .at) index
 
 abbrev μ : tie.MeasureT-loop
-μ model places packet from list place₀ n₀ place n = length list - place .at
+μ model places packet from list place₀ index₀ place index = length list - place .at
 
 -- the element that was found, the turn that found it, and where the call began
 step : (c : tie.After-start Inv μ) → SeenOf _ _ (c .before .before .element .ensures) (c .start .given .1)
@@ -67,8 +69,8 @@ returns c =
     let may = pair-allows (bytes e) (step e) packet (began e .pre .1 .0) (good e) (r .find-pair .ensures) (c .enum-told .given .1) in
     sought-here (turn e .loop .inv .0) (step e) may
 
-add-n : tie.Need-add-n Inv μ
-add-n c =
+add-index : tie.Need-add-index Inv μ
+add-index c =
     let e = entry (c .before .before) in
     let st = step e in
     omega (arith, turn e .loop .inv .0 .few, st .before, st .order, st .within)
@@ -109,7 +111,7 @@ first-allowed-spec =
     (λ c. search needs)
     returns
     (λ c. search needs)
-    add-n
+    add-index
     loop-less
     loop-again
     (λ c. search needs)
