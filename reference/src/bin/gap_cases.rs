@@ -1,9 +1,10 @@
 //! Demand 3 as cases: what unknown elements and another version change.
 //!
-//! For each generated case whose model is read: the case itself, the same with
-//! its bare model, with an optional element in each gap, with a critical one in
-//! each gap (in a model with many, evenly spread), and with another version. Cases go to standard output, and the
-//! lines that they must get to the file LINES.
+//! For each generated case whose model is read, of each of the four calls: the
+//! case itself, the same with its bare model, with an optional element in each
+//! gap, with a critical one in each gap (in a model with many, evenly spread),
+//! and with another version. Cases go to standard output, and the lines that
+//! they must get to the file LINES.
 //! Arguments: seed, number of generated cases, LINES.
 
 use std::env;
@@ -19,6 +20,8 @@ use lvs_reference::{bare, gaps, insert_element};
 const MAX_MODEL: usize = 32_768;
 /// In models with more gaps every second, third .. of them is taken.
 const MAX_GAPS: usize = 64;
+/// Of every so many calls one more has a list of certificates.
+const CALLS: u64 = 4;
 
 fn main() -> ExitCode {
     let arguments: Vec<String> = env::args().skip(1).collect();
@@ -45,8 +48,9 @@ fn usage() -> ExitCode {
 fn write_all(seed: u64, count: u64, lines: &str) -> io::Result<()> {
     let mut out = BufWriter::with_capacity(1 << 16, io::stdout().lock());
     let mut lines = BufWriter::new(File::create(lines)?);
-    for index in 0..count {
-        let case = gen::case(seed, index);
+    let with_lists = (0..count / CALLS).map(|index| gen::certificate_case(seed, index));
+    let cases = (0..count).map(|index| gen::case(seed, index));
+    for (index, case) in (0..).zip(cases.chain(with_lists)) {
         let mut random = Random::for_case(!seed, index);
         for (variant, line) in variants(&case, &mut random) {
             variant.write(&mut out)?;
