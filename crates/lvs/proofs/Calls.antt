@@ -26,7 +26,7 @@ use Rattle.lvs_spec.proofs.Usable.{accepted-usable, refused-unusable}
 use Rattle.lvs_spec.proofs.Lists.{clash}
 use Rattle.lvs_spec.proofs.Indices.{index-below}
 use Rattle.lvs_spec.proofs.Signing.{signs-first}
-use Rattle.lvs_spec.proofs.Suggesting.{reading-fit}
+use Rattle.lvs_spec.proofs.Certificates.{reading-fit}
 use Rattle.lvs_edges.specs.Nodes.{Walkable}
 use Rattle.lvs_edges.proofs.Ordered.{well-ordered}
 

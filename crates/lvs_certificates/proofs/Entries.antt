@@ -8,12 +8,13 @@ use native.Mathlib.Omega.{arith}
 use borrow.Author.Tests.{lt-ltb, le-ltb, ltb-true, ltb-false}
 use lib.Dec.{ltb}
 use lib.ListN.{length, take, drop, length-drop}
-use Rattle.tlv.specs.Element.{Cuts, done, broken, next, cuts, pieces}
+use Rattle.tlv.specs.Element.{done, broken, cuts, pieces}
 use Rattle.tlv.specs.Lists.{firstIndex}
 use Rattle.tlv.specs.declared.Place.{Place}
-use Rattle.tlv.proofs.Cuts.{Step, element-nil, cuts-end, done-nil}
+use Rattle.tlv.proofs.Cuts.{Step}
 use Rattle.lvs_spec.specs.Limits.{maxCertificates}
 use Rattle.lvs_spec.specs.Certificates.{Entry, entries, unfit, manyEntries, unfitEntry, fitEntries, fitness, listReading}
+use Rattle.lvs_spec.proofs.Certificates.{some-entry, no-entry}
 use Rattle.lvs_spec.proofs.Indices.{index-here, index-later, index-below}
 
 -- ---- what stands at a place
@@ -45,21 +46,6 @@ pub record CutOff (list : List ℕ) (at n : ℕ) : Type 0 where
 
 pub cut-start : {list : List ℕ} → CutOff list 0 0
 cut-start = record { is = omega arith; most = omega arith }
-
--- bytes that are left are an entry more
-some-entry : (b : List ℕ) → 0 < length b → 0 < length (entries b)
-unfolding entries pieces
-some-entry b l = go (cuts b) refl
-  where
-    go : (c : Cuts) → cuts b ≡ c → 0 < length (pieces c)
-    go done e = absurd (omega (arith, ap length (done-nil b e)))
-    go broken e = omega arith
-    go (next x c) e = omega arith
-
-no-entry : (b : List ℕ) → length b ≡ 0 → length (entries b) ≡ 0
-unfolding entries pieces
-no-entry [] e = rw (cuts-end [] element-nil)
-no-entry (x ∷ xs) e = absurd (omega arith)
 
 module _ {list : List ℕ} {at n : ℕ} (inv : CutOff list at n) where
   module _ (fewer : n < maxCertificates) where

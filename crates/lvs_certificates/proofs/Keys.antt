@@ -15,7 +15,7 @@ use Rattle.lvs_spec.specs.Certificates.{entries, isBad, unfit, fitEntries, list
 use Rattle.lvs_spec.proofs.Lists.{clash}
 use Rattle.lvs_spec.proofs.Names.{good-short}
 use Rattle.lvs_spec.proofs.Signing.{signs-first}
-use Rattle.lvs_spec.proofs.Suggesting.{reading-fit}
+use Rattle.lvs_spec.proofs.Certificates.{reading-fit}
 use Rattle.lvs_names.specs.Rows.{rowFrom}
 use Rattle.lvs_names.specs.Answers.{nameRead}
 use Rattle.lvs_names.specs.declared.NameRead.{NameRead}

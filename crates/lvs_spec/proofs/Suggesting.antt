@@ -1,13 +1,11 @@
 -- The suggesting call: an index is answered exactly when that certificate is the first that is allowed, and "none" exactly when none is. Assumes nothing.
-use Prim.Native.Nat.{ℕ, _+_, _≤_}
+use Prim.Native.Nat.{ℕ, _+_}
 use mathlib.Core.Path.{_≡_, refl, sym, ap, _∙_, subst, fun-ext}
 use mathlib.Core.Logic.{_↔_}
-use mathlib.Core.Bool.{Bool, true, false, cond}
+use mathlib.Core.Bool.{Bool, true, false}
 use mathlib.Core.List.{List, [], _∷_, _++_, map, append-nil, List·Memᴰ, List·Memᴰ·head, List·Memᴰ·tail, Memᴰ·append-left, Memᴰ·append-right}
 use mathlib.Core.Option.{Option, none, some}
 use native.Mathlib.Omega.{arith}
-use borrow.Author.Tests.{le-ltb, ltb-false}
-use lib.Dec.{ltb}
 use lib.ListN.{length, length-map}
 use Rattle.tlv.specs.Bytes.{Bytes}
 use Rattle.tlv.specs.Element.{Element, first, Cuts, done, broken, next, cuts, pieces, elementBytes, encode, InRange, Each, nexts}
@@ -15,41 +13,21 @@ use Rattle.tlv.specs.Lists.{firstIndex}
 use Rattle.tlv.specs.Lists as lists
 use Rattle.tlv.proofs.Bytes.{bytes-left, bytes-right}
 use Rattle.tlv.proofs.RoundTrip.{element-bytes, element-fits, cuts-encoded, split-nexts, encode-split}
-use Rattle.lvs_spec.specs.Limits.{maxCertificates}
 use Rattle.lvs_spec.specs.Model.{Model}
 use Rattle.lvs_spec.specs.Names.{Component, NameReading, badName, goodName, packetName, keyName}
 use Rattle.lvs_spec.specs.Walk.{Pair, pairs}
 use Rattle.lvs_spec.specs.Answers.{Refusal, Usable, unusable, usable, usableModel, SignAnswer, notAllowed, allowed, pairFound, signIn, signAnswer}
 use Rattle.lvs_spec.specs.Certificates.{Entry, entries, isBad, unfit, isAllowed, allows, SuggestAnswer, noCertificate, certificate, suggested}
-use Rattle.lvs_spec.specs.Certificates.{ListReading, manyEntries, unfitEntry, fitEntries, fitness, listReading}
+use Rattle.lvs_spec.specs.Certificates.{ListReading, manyEntries, unfitEntry, fitEntries, listReading}
 use Rattle.lvs_spec.specs.Certificates.{suggestFrom, suggestName, suggestIn, suggestAnswer}
 use Rattle.lvs_spec.specs.Demands.{modelRefusals, packetRefusals, listRefusals, suggestRefusals, joined, SuggestInputs, FirstAllowed, NoCertificate}
 use Rattle.lvs_spec.specs.Demands.{SomeAllowed, NoneAllowed}
 use Rattle.lvs_spec.proofs.Lists.{clash}
 use Rattle.lvs_spec.proofs.Indices.{index-here, index-later, index-first, first-index, index-none, none-index, index-map}
 use Rattle.lvs_spec.proofs.Names.{good-element}
+use Rattle.lvs_spec.proofs.Certificates.{reading-fit, fit-reading}
 use Rattle.lvs_spec.proofs.Refusals.{unusable-number, packet-number}
 use Rattle.lvs_spec.proofs.Signing.{signs-first, sign-some, sign-none}
-
--- ---- a list that is searched
-
--- it has no more than 64 entries, none of them unfit
-pub record Fit (es : List Entry) : Type 0 where
-  pub few : length es ≤ maxCertificates
-  pub fit : firstIndex unfit 0 es ≡ none
-
-pub reading-fit : (es : List Entry) → listReading es ≡ fitEntries → Fit es
-unfolding listReading fitness
-reading-fit es h = go (ltb maxCertificates (length es)) (firstIndex unfit 0 es) refl refl h
-  where
-    go : (t : Bool) (o : Option ℕ) → ltb maxCertificates (length es) ≡ t → firstIndex unfit 0 es ≡ o → cond t manyEntries (fitness o) ≡ fitEntries → Fit es
-    go true o p q h = clash (cc)
-    go false (some i) p q h = clash (cc)
-    go false none p q h = record { few = ltb-false maxCertificates (length es) p; fit = q }
-
-fit-reading : (es : List Entry) → Fit es → listReading es ≡ fitEntries
-unfolding listReading fitness
-fit-reading es f = rw (le-ltb maxCertificates (length es) (f .few), f .fit)
 
 -- ---- how a call ends
 
