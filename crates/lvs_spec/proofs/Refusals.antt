@@ -2,7 +2,7 @@
 use Prim.Native.Nat.{ℕ, _+_}
 use mathlib.Core.Path.{_≡_, refl, sym, _∙_, subst}
 use mathlib.Core.Bool.{Bool, true, false}
-use mathlib.Core.List.{List, [], _∷_, map, List·Memᴰ, List·Memᴰ·head, List·Memᴰ·tail}
+use mathlib.Core.List.{List, [], _∷_, _++_, map, List·Memᴰ, List·Memᴰ·head, List·Memᴰ·tail, Memᴰ·append-left, Memᴰ·append-right}
 use mathlib.Core.Option.{Option, none, some}
 use lib.Dec.{ltb}
 use lib.ListN.{length}
@@ -92,3 +92,14 @@ packet-number b h = name-number 21 b h
 pub key-number : (b : List ℕ) {r : ℕ} → keyName b ≡ badName r → List·Memᴰ r keyRefusals
 unfolding keyName
 key-number b h = name-number 24 b h
+
+-- a call takes a model, a packet name, and one input more, with refusals of its own
+module _ (own : List ℕ) where
+  pub of-model : (b : List ℕ) {x : Refusal} → usableModel b ≡ unusable x → List·Memᴰ (x .number) (modelRefusals ++ (packetRefusals ++ own))
+  of-model b h = Memᴰ·append-left (packetRefusals ++ own) (unusable-number b h)
+
+  pub of-packet : (b : List ℕ) {r : ℕ} → packetName b ≡ badName r → List·Memᴰ r (modelRefusals ++ (packetRefusals ++ own))
+  of-packet b h = Memᴰ·append-right modelRefusals (Memᴰ·append-left own (packet-number b h))
+
+  pub of-own : {r : ℕ} → List·Memᴰ r own → List·Memᴰ r (modelRefusals ++ (packetRefusals ++ own))
+  of-own i = Memᴰ·append-right modelRefusals (Memᴰ·append-right packetRefusals i)

@@ -3,7 +3,7 @@ use Prim.Native.Nat.{ℕ, _+_}
 use mathlib.Core.Path.{_≡_, refl, sym, ap, _∙_, subst, fun-ext}
 use mathlib.Core.Logic.{_↔_}
 use mathlib.Core.Bool.{Bool, true, false}
-use mathlib.Core.List.{List, [], _∷_, _++_, map, append-nil, List·Memᴰ, List·Memᴰ·head, List·Memᴰ·tail, Memᴰ·append-left, Memᴰ·append-right}
+use mathlib.Core.List.{List, [], _∷_, _++_, map, append-nil, List·Memᴰ, List·Memᴰ·head, List·Memᴰ·tail, Memᴰ·append-left}
 use mathlib.Core.Option.{Option, none, some}
 use native.Mathlib.Omega.{arith}
 use lib.ListN.{length, length-map}
@@ -20,13 +20,13 @@ use Rattle.lvs_spec.specs.Answers.{Refusal, Usable, unusable, usable, us
 use Rattle.lvs_spec.specs.Certificates.{Entry, entries, isBad, unfit, isAllowed, allows, SuggestAnswer, noCertificate, certificate, suggested}
 use Rattle.lvs_spec.specs.Certificates.{ListReading, manyEntries, unfitEntry, fitEntries, listReading}
 use Rattle.lvs_spec.specs.Certificates.{suggestFrom, suggestName, suggestIn, suggestAnswer}
-use Rattle.lvs_spec.specs.Demands.{modelRefusals, packetRefusals, listRefusals, suggestRefusals, joined, SuggestInputs, FirstAllowed, NoCertificate}
+use Rattle.lvs_spec.specs.Demands.{listRefusals, suggestRefusals, joined, SuggestInputs, FirstAllowed, NoCertificate}
 use Rattle.lvs_spec.specs.Demands.{SomeAllowed, NoneAllowed}
 use Rattle.lvs_spec.proofs.Lists.{clash}
 use Rattle.lvs_spec.proofs.Indices.{index-here, index-later, index-first, first-index, index-none, none-index, index-map}
 use Rattle.lvs_spec.proofs.Names.{good-element}
 use Rattle.lvs_spec.proofs.Certificates.{reading-fit, fit-reading}
-use Rattle.lvs_spec.proofs.Refusals.{unusable-number, packet-number}
+use Rattle.lvs_spec.proofs.Refusals.{of-model, of-packet, of-own}
 use Rattle.lvs_spec.proofs.Signing.{signs-first, sign-some, sign-none}
 
 -- ---- how a call ends
@@ -51,17 +51,14 @@ ended : (b packet list : List ℕ) → Ended b packet list (suggestAnswer b pack
 unfolding suggestAnswer suggestIn suggestName suggestFrom
 ended b packet list = go (usableModel b) (packetName packet) (listReading (entries list)) refl refl refl
   where
-    of-list : {r : ℕ} → List·Memᴰ r listRefusals → List·Memᴰ r suggestRefusals
-    of-list i = Memᴰ·append-right modelRefusals (Memᴰ·append-right packetRefusals i)
-
     go : (u : Usable) (r : NameReading) (l : ListReading) → usableModel b ≡ u → packetName packet ≡ r → listReading (entries list) ≡ l
         → Ended b packet list (suggestAnswer b packet list)
-    go (unusable x) r l eu er el = rw (eu, suggestAnswer) (refusing x (Memᴰ·append-left _ (unusable-number b eu)))
+    go (unusable x) r l eu er el = rw (eu, suggestAnswer) (refusing x (of-model listRefusals b eu))
     go (usable m) (badName x) l eu er el =
-        rw (eu, suggestAnswer) (rw er (refusing _ (Memᴰ·append-right modelRefusals (Memᴰ·append-left listRefusals (packet-number packet er)))))
+        rw (eu, suggestAnswer) (rw er (refusing _ (of-packet listRefusals packet er)))
     go (usable m) (goodName ps) manyEntries eu er el =
-        rw (eu, suggestAnswer) (rw er (rw el (refusing _ (of-list (List·Memᴰ·tail (List·Memᴰ·head refl))))))
-    go (usable m) (goodName ps) (unfitEntry i) eu er el = rw (eu, suggestAnswer) (rw er (rw el (refusing _ (of-list (List·Memᴰ·head refl)))))
+        rw (eu, suggestAnswer) (rw er (rw el (refusing _ (of-own listRefusals (List·Memᴰ·tail (List·Memᴰ·head refl))))))
+    go (usable m) (goodName ps) (unfitEntry i) eu er el = rw (eu, suggestAnswer) (rw er (rw el (refusing _ (of-own listRefusals (List·Memᴰ·head refl)))))
     go (usable m) (goodName ps) fitEntries eu er el =
         let s : Searched b packet list m ps = record { usable-is = eu; packet-good = er; list-fit = el } in
         rw (searched-is s) (searching s refl)
