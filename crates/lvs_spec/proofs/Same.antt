@@ -1,0 +1,79 @@
+-- Two models with the same traces have the same matches, signing answers and suggestions. Assumes nothing.
+use Prim.Native.Nat.{ℕ}
+use mathlib.Core.Path.{_≡_, refl, sym, ap, _∙_, fun-ext}
+use mathlib.Core.Bool.{Bool, true, false}
+use mathlib.Core.List.{List}
+use mathlib.Core.Option.{none, some}
+use lib.Dec.{ltb}
+use lib.ListN.{length}
+use Rattle.tlv.specs.Element.{elementBytes}
+use Rattle.tlv.specs.Lists.{firstIndex}
+use Rattle.lvs_spec.specs.Limits.{bindingWords}
+use Rattle.lvs_spec.specs.Model.{Model, modelOf}
+use Rattle.lvs_spec.specs.Verdict.{Verdict, verdict}
+use Rattle.lvs_spec.specs.Names.{Component, NameReading, badName, goodName, packetName, keyName}
+use Rattle.lvs_spec.specs.Walk.{packetTrace, pairTrace}
+use Rattle.lvs_spec.specs.Answers.{usable, usableModel, matchRoom, matchName, matchIn, matchOutcome, signNames, signIn, signAnswer}
+use Rattle.lvs_spec.specs.Certificates.{Entry, entries, ListReading, manyEntries, unfitEntry, fitEntries, listReading, allows, suggested}
+use Rattle.lvs_spec.specs.Certificates.{suggestFrom, suggestName, suggestIn, suggestAnswer}
+use Rattle.lvs_spec.proofs.Usable.{accepted-usable}
+
+-- the same edges looked at and the same answers found, in the same order, for all names
+pub record SameTraces (m n : Model) : Type 0 where
+  pub packet : (cs : List Component) → packetTrace m cs ≡ packetTrace n cs
+  pub pair : (ps ks : List Component) → pairTrace m ps ks ≡ pairTrace n ps ks
+
+-- two models that are each like the same third
+pub through : {m n o : Model} → SameTraces o m → SameTraces o n → SameTraces m n
+through s t = record { packet = λ cs. sym (s .packet cs) ∙ t .packet cs; pair = λ ps ks. sym (s .pair ps ks) ∙ t .pair ps ks }
+
+module _ {m n : Model} (s : SameTraces m n) where
+  match-same : (r : NameReading) (buffer : List ℕ) → matchName m r buffer ≡ matchName n r buffer
+  unfolding matchName matchRoom
+  match-same (badName x) buffer = refl
+  match-same (goodName cs) buffer = go (ltb (length buffer) bindingWords)
+    where
+      go : (t : Bool) → matchRoom t m cs buffer ≡ matchRoom t n cs buffer
+      go true = refl
+      go false = rw (s .packet cs)
+
+  sign-same : (r q : NameReading) → signNames m r q ≡ signNames n r q
+  unfolding signNames
+  sign-same (badName x) q = refl
+  sign-same (goodName ps) (badName x) = refl
+  sign-same (goodName ps) (goodName ks) = rw (s .pair ps ks)
+
+  allows-same : (packet : List ℕ) (e : Entry) → allows m packet e ≡ allows n packet e
+  unfolding allows signIn
+  allows-same packet none = refl
+  allows-same packet (some e) = rw (sign-same (packetName packet) (keyName (elementBytes e)))
+
+  suggest-same : (packet : List ℕ) (r : NameReading) (es : List Entry) → suggestName m packet r es ≡ suggestName n packet r es
+  unfolding suggestName suggestFrom
+  suggest-same packet (badName x) es = refl
+  suggest-same packet (goodName cs) es = go (listReading es)
+    where
+      go : (l : ListReading) → suggestFrom m packet es l ≡ suggestFrom n packet es l
+      go manyEntries = refl
+      go (unfitEntry i) = refl
+      go fitEntries = ap (λ (f : Entry → Bool). suggested (firstIndex f 0 es)) (fun-ext (allows-same packet))
+
+-- the same match outcomes, signing answers and suggestions, for all names, buffers and lists
+pub record SameAnswers (a b : List ℕ) : Type 0 where
+  pub matched : (name buffer : List ℕ) → matchOutcome a name buffer ≡ matchOutcome b name buffer
+  pub signed : (packet key : List ℕ) → signAnswer a packet key ≡ signAnswer b packet key
+  pub suggested : (packet list : List ℕ) → suggestAnswer a packet list ≡ suggestAnswer b packet list
+
+-- two models that the calls go on with
+same-answers : (a b : List ℕ) {m n : Model} → usableModel a ≡ usable m → usableModel b ≡ usable n → SameTraces m n → SameAnswers a b
+unfolding matchOutcome matchIn signAnswer signIn suggestAnswer suggestIn
+same-answers a b p q s =
+    record {
+      matched = λ name buffer. rw (p, q, matchOutcome) (match-same s (packetName name) buffer);
+      signed = λ packet key. rw (p, q, signAnswer) (sign-same s (packetName packet) (keyName key));
+      suggested = λ packet list. rw (p, q, suggestAnswer) (suggest-same s packet (packetName packet) (entries list));
+    }
+
+pub accepted-same : (a b : List ℕ) (i j : ℕ) → verdict a ≡ Verdict.accepted i → verdict b ≡ Verdict.accepted j → SameTraces (modelOf a) (modelOf b)
+    → SameAnswers a b
+accepted-same a b i j p q s = same-answers a b (accepted-usable a i p) (accepted-usable b j q) s
