@@ -11,6 +11,7 @@ use lib.ListN.{length, getD, set, take, drop, length-drop, length-set, drop-of-l
 use lib.Seq.{take-all, set-out, set-set, set-getD}
 use Rattle.lvs_spec.specs.Limits.{maxTag}
 use Rattle.lvs_spec.specs.Walk.{Bindings, bound, bindTag}
+use Rattle.lvs_spec.proofs.Buffer.{twice, twice-one}
 use Rattle.lvs_bindings.specs.Slots.{Room, SlotOf, textFrom, bindingAt, binding, bindingsOf}
 use Rattle.lvs_bindings.specs.Slots.{hasWords, slotAt, boundWords, boundTag, clearedWords, without}
 use Rattle.lvs_bindings.specs.declared.Slot.{Slot}
@@ -35,12 +36,6 @@ module _ (packet key : List ℕ) (p : ℕ) where
       drop-of-length-le key {i = length key} (omega arith) ∙ sym (drop-of-length-le key {i = p - length packet} (omega arith)) ∙ text-key h
 
 -- ---- two words for each Tag
-
-pub twice : (i : ℕ) → suc i * 2 ≡ suc (suc (i * 2))
-twice i = omega arith
-
-pub twice-one : (i : ℕ) → suc (suc (i * 2)) + 1 ≡ suc (suc (i * 2 + 1))
-twice-one i = omega arith
 
 module _ (packet key : List ℕ) where
   getD-bindings : (i : ℕ) (words : List ℕ) → getD (bindingsOf packet key words) i none ≡ binding packet key (getD words (i * 2) 0) (getD words (i * 2 + 1) 0)
@@ -191,32 +186,36 @@ module _ {words : List ℕ} (room : Room words) (packet key : List ℕ) where
 
   -- ---- binding a Tag, and unbinding it again
 
-  module _ (tag p n : ℕ) (free : bound (bindingsOf packet key words) tag ≡ none) (some-bytes : n ≡ 0 → ⊥) where
-    pub bound-bindings : bindingsOf packet key (boundWords tag p n words) ≡ bindTag (bindingsOf packet key words) tag (bindingAt packet key p n)
+  module _ (count tag p n : ℕ) (named : tag ≤ count) (free : bound (bindingsOf packet key words) tag ≡ none) (some-bytes : n ≡ 0 → ⊥) where
+    pub bound-bindings : bindingsOf packet key (boundWords tag p n words) ≡ bindTag count (bindingsOf packet key words) tag (bindingAt packet key p n)
     unfolding boundWords bindTag bound hasWords
-    bound-bindings = go tag free (hasWords tag) refl
+    bound-bindings = go tag named free (hasWords tag) refl
       where
-        go : (tag : ℕ) → bound (bindingsOf packet key words) tag ≡ none → (t : Bool) → hasWords tag ≡ t
-            → bindingsOf packet key (boundWords tag p n words) ≡ bindTag (bindingsOf packet key words) tag (bindingAt packet key p n)
-        go zero f t h = refl
-        go (suc i) f true h =
+        go : (tag : ℕ) → tag ≤ count → bound (bindingsOf packet key words) tag ≡ none → (t : Bool) → hasWords tag ≡ t
+            → bindingsOf packet key (boundWords tag p n words) ≡ bindTag count (bindingsOf packet key words) tag (bindingAt packet key p n)
+        go zero l f t h = refl
+        go (suc i) l f true h =
             let e : suc i - 1 ≡ i = omega arith in
             let bound-there = ap (set (bindingsOf packet key words) i) (binding-some packet key p n some-bytes) in
-            rw (h, boundWords) (rw (e, f) (set-bindings packet key i words p n ∙ bound-there))
-        go (suc i) f false h = rw (h, boundWords) (rw f (sym (set-out (bindingsOf packet key words) i _ (omega (arith, all-bindings, no-words-past i h)))))
+            rw (h, boundWords) (rw (e, f, le-leb (suc i) count l) (set-bindings packet key i words p n ∙ bound-there))
+        go (suc i) l f false h =
+            let out = set-out (bindingsOf packet key words) i _ (omega (arith, all-bindings, no-words-past i h)) in
+            rw (h, boundWords) (rw (f, le-leb (suc i) count l) (sym out))
 
-    pub bound-back : without (boundTag tag) (bindTag (bindingsOf packet key words) tag (bindingAt packet key p n)) ≡ bindingsOf packet key words
+    pub bound-back : without (boundTag tag) (bindTag count (bindingsOf packet key words) tag (bindingAt packet key p n)) ≡ bindingsOf packet key words
     unfolding boundTag bindTag bound without hasWords
-    bound-back = go tag free (hasWords tag) refl
+    bound-back = go tag named free (hasWords tag) refl
       where
-        go : (tag : ℕ) → bound (bindingsOf packet key words) tag ≡ none → (t : Bool) → hasWords tag ≡ t
-            → without (boundTag tag) (bindTag (bindingsOf packet key words) tag (bindingAt packet key p n)) ≡ bindingsOf packet key words
-        go zero f t h = refl
-        go (suc i) f true h =
+        go : (tag : ℕ) → tag ≤ count → bound (bindingsOf packet key words) tag ≡ none → (t : Bool) → hasWords tag ≡ t
+            → without (boundTag tag) (bindTag count (bindingsOf packet key words) tag (bindingAt packet key p n)) ≡ bindingsOf packet key words
+        go zero l f t h = refl
+        go (suc i) l f true h =
             let s : Bindings = bindingsOf packet key words in
             let q : set s i none ≡ s = ap (set s i) (sym f) ∙ set-getD s i none in
-            rw (h, boundTag) (rw f (set-set s i _ none ∙ q))
-        go (suc i) f false h = rw (h, boundTag) (rw f (set-out (bindingsOf packet key words) i _ (omega (arith, all-bindings, no-words-past i h))))
+            rw (h, boundTag) (rw (f, le-leb (suc i) count l) (set-set s i _ none ∙ q))
+        go (suc i) l f false h =
+            let out = set-out (bindingsOf packet key words) i _ (omega (arith, all-bindings, no-words-past i h)) in
+            rw (h, boundTag) (rw (f, le-leb (suc i) count l) out)
 
 module _ (packet key : List ℕ) where
   clear-at : (i : ℕ) (words : List ℕ) → bindingsOf packet key (set words (i * 2 + 1) 0) ≡ set (bindingsOf packet key words) i none

@@ -12,7 +12,7 @@ use Rattle.lvs_spec.specs.Limits.{maxTag, bindingWords}
 use Rattle.lvs_spec.specs.Walk.{Bindings}
 use Rattle.lvs_spec.specs.Answers.{words, boundCount}
 use Rattle.lvs_bindings.specs.Slots.{slotWords, Room, placeIn, bindingAt, binding, bindingsOf, startWord}
-use Rattle.lvs_bindings.proofs.Slots.{twice, twice-one}
+use Rattle.lvs_spec.proofs.Buffer.{twice, twice-one}
 
 -- ---- one binding
 

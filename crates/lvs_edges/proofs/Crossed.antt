@@ -1,17 +1,21 @@
 -- The answers for an edge, one law for each return. Assumes nothing.
-use Prim.Native.Nat.{ℕ, zero, suc, _-_}
-use mathlib.Core.Path.{_≡_, refl, sym, ap, _∙_}
+use Prim.Native.Nat.{ℕ, _-_, _≤_, _<_}
+use mathlib.Core.Path.{_≡_, refl, sym, ap, _∙_, subst}
 use mathlib.Core.Bool.{Bool, true, false, cond, _&&_}
 use mathlib.Core.List.{List}
-use mathlib.Core.Option.{none, some}
+use mathlib.Core.Option.{none, some, Option·some-injective}
 use native.Mathlib.Omega.{arith}
 use lib.ListN.{length, take, drop}
 use Rattle.tlv.specs.Lists.{bind, guard, all}
 use Rattle.tlv.specs.Fields.{theInside, theInteger}
 use Rattle.lvs_spec.specs.Types as type
-use Rattle.lvs_spec.specs.Model.{componentOf, valueEdgeOf, patternEdgeOf, destination}
+use Rattle.lvs_spec.specs.Model.{Edge, componentOf, valueEdgeOf, patternEdgeOf, destination}
 use Rattle.lvs_spec.specs.Names.{same}
 use Rattle.lvs_spec.specs.Walk.{Binding, Bindings, Match, bound, bindTag, boundTo, constraintHolds, crosses, bindingsAfter}
+use Rattle.lvs_spec.specs.Demands.{OnlyNamed}
+use Rattle.lvs_spec.proofs.Lists.{bind-from}
+use Rattle.lvs_spec.proofs.Temporary.{named-after, temporary-crosses, temporary-stays}
+use Rattle.lvs_spec.proofs.Bindings.{bound-stays}
 use Rattle.lvs_bindings.specs.Slots.{Room, SlotOf, textFrom, bindingAt, bindingsOf, boundWords, boundTag, without}
 use Rattle.lvs_bindings.specs.declared.Slot.{Slot}
 use Rattle.lvs_bindings.proofs.Slots.{to-end, unbound, is-bound, bound-most, bound-long, bound-bindings, bound-back}
@@ -34,24 +38,24 @@ and-cond false y = refl
 
 -- v is what its Value holds, and t whether that equals the component c
 module _ (s c : List ℕ) {v : List ℕ} (v-is : v ≡ theInside type.Value s) {t : Bool} (h : t ≡ same (componentOf v) (componentOf c)) where
-  value-leads : (β : Bindings) (b : Binding) → b .component .content ≡ componentOf c
-      → leadsTo β b (edgeOf false s) ≡ cond t (some (record { node = theInteger type.NodeId s; bindings = β })) none
+  value-leads : (count : ℕ) (β : Bindings) (b : Binding) → b .component .content ≡ componentOf c
+      → leadsTo count β b (edgeOf false s) ≡ cond t (some (record { node = theInteger type.NodeId s; bindings = β })) none
   unfolding leadsTo edgeOf bindingsAfter valueEdgeOf destination
-  value-leads β b e = rw (← v-is, e, ← h) (led t (theInteger type.NodeId s) β)
+  value-leads count β b e = rw (← v-is, e, ← h) (led t (theInteger type.NodeId s) β)
 
   pub value-shut : t ≡ false → CrossedValue s c Shut
-  value-shut f = record { leads = λ β b e. value-leads β b e ∙ rw f; binds-none = refl }
+  value-shut f = record { leads = λ count β b e. value-leads count β b e ∙ rw f; binds-none = refl }
 
   pub value-open : {d : ℕ} → t ≡ true → d ≡ theInteger type.NodeId s → CrossedValue s c (Open d 0)
-  value-open f d = record { leads = λ β b e. value-leads β b e ∙ rw (f, ← d); binds-none = refl }
+  value-open f d = record { leads = λ count β b e. value-leads count β b e ∙ rw (f, ← d); binds-none = refl }
 
 -- under the bindings as they stand, with the component at its place
-pub value-crossed : {packet key s c slots : List ℕ} {at : ℕ} {r : Crossing} → Room slots → Stands packet key at c → CrossedValue s c r
-    → Crossed packet key (edgeOf false s) (bindingAt packet key at (length c)) slots r slots
+pub value-crossed : {count : ℕ} {packet key s c slots : List ℕ} {at : ℕ} {r : Crossing} → Room slots → Stands packet key at c → CrossedValue s c r
+    → Crossed count packet key (edgeOf false s) (bindingAt packet key at (length c)) slots r slots
 unfolding bindingAt without
-value-crossed {packet} {key} {c = c} {slots = slots} {at = at} room stands value =
+value-crossed {count} {packet} {key} {c = c} {slots = slots} {at = at} room stands value =
     record {
-      leads = value .leads (bindingsOf packet key slots) (bindingAt packet key at (length c)) (stands .content);
+      leads = value .leads count (bindingsOf packet key slots) (bindingAt packet key at (length c)) (stands .content);
       back = rw (value .binds-none);
       low = rw (value .binds-none) (omega arith);
       room = room;
@@ -59,8 +63,8 @@ value-crossed {packet} {key} {c = c} {slots = slots} {at = at} room stands value
 
 -- ---- a PatternEdge
 
-module _ {packet key s c slots : List ℕ} {at : ℕ} {f : PatternFields} {w : Slot} (room : Room slots) (stands : Stands packet key at c)
-    (F : FieldsOf s f) (S : SlotOf slots (f .tag) w) where
+module _ {count : ℕ} {packet key s c slots : List ℕ} {at : ℕ} {f : PatternFields} (room : Room slots)
+    (named : OnlyNamed count (bindingsOf packet key slots)) (stands : Stands packet key at c) (F : FieldsOf s f) where
   abbrev β : Bindings
   β = bindingsOf packet key slots
 
@@ -70,15 +74,24 @@ module _ {packet key s c slots : List ℕ} {at : ℕ} {f : PatternFields} {w : S
   abbrev part : List ℕ
   part = take (length s - f .rest) (drop (f .rest) s)
 
+  -- the edge, crossed with this answer and these slots after it
+  abbrev Answer : Crossing → List ℕ → Type 0
+  Answer r after = Crossed count packet key (edgeOf true s) b slots r after
+
   -- whether the edge is crossed, and where it leads then
   pattern-leads : {t : Bool} → crosses β (componentOf c) (patternEdgeOf s) ≡ t
-      → leadsTo β b (edgeOf true s) ≡ cond t (some (record { node = f .dest; bindings = bindTag β (f .tag) b })) none
+      → leadsTo count β b (edgeOf true s) ≡ cond t (some (record { node = f .dest; bindings = bindTag count β (f .tag) b })) none
   unfolding leadsTo edgeOf bindingsAfter patternEdgeOf destination bindingAt
   pattern-leads {t} e = rw (stands .content, e, F .destination, F .tag-is) (led t (theInteger type.NodeId s) _)
 
-  pattern-shut : crosses β (componentOf c) (patternEdgeOf s) ≡ false → Crossed packet key (edgeOf true s) b slots Shut slots
+  pattern-shut : crosses β (componentOf c) (patternEdgeOf s) ≡ false → Answer Shut slots
   unfolding without
   pattern-shut e = record { leads = pattern-leads e; back = refl; low = omega arith; room = room }
+
+  -- it is crossed, and its Tag is not bound anew
+  pattern-open : crosses β (componentOf c) (patternEdgeOf s) ≡ true → bindTag count β (f .tag) b ≡ β → Answer (Open (f .dest) 0) slots
+  unfolding without
+  pattern-open e same-bindings = record { leads = pattern-leads e ∙ rw same-bindings; back = refl; low = omega arith; room = room }
 
   module _ {held : Bool} (held-is : held ≡ all (constraintHolds β (componentOf c)) (patternEdgeOf part .constraints)) where
     -- the part that was tested has all Constraints of the edge
@@ -86,58 +99,73 @@ module _ {packet key s c slots : List ℕ} {at : ℕ} {f : PatternFields} {w : S
     unfolding patternEdgeOf
     all-held = sym (held-is ∙ rw (to-end s (f .rest), F .constraints))
 
-    -- the Tag is unbound
-    module _ (free : w .size ≡ 0) where
-      not-bound : bound β (f .tag) ≡ none
-      not-bound = unbound room packet key S free
+    -- the Tag is temporary
+    module _ (temporary : count < f .tag) where
+      crosses-temporary : crosses β (componentOf c) (patternEdgeOf s) ≡ held
+      unfolding patternEdgeOf
+      crosses-temporary = temporary-crosses named (componentOf c) (patternEdgeOf s) (rw (← F .tag-is) temporary) ∙ all-held
 
-      crosses-free : crosses β (componentOf c) (patternEdgeOf s) ≡ held
-      unfolding crosses patternEdgeOf
-      crosses-free = rw (← F .tag-is, not-bound) all-held
+      pub temporary-shut : held ≡ false → Answer Shut slots
+      temporary-shut e = pattern-shut (crosses-temporary ∙ e)
 
-      pub free-shut : held ≡ false → Crossed packet key (edgeOf true s) b slots Shut slots
-      free-shut e = pattern-shut (crosses-free ∙ e)
+      pub temporary-open : held ≡ true → Answer (Open (f .dest) 0) slots
+      temporary-open e = pattern-open (crosses-temporary ∙ e) (temporary-stays count β (f .tag) b temporary)
 
-      pub free-open : held ≡ true → {tag : ℕ} {after : List ℕ} → (tag ≡ boundTag (f .tag)) × (after ≡ boundWords (f .tag) at (length c) slots)
-          → Crossed packet key (edgeOf true s) b slots (Open (f .dest) tag) after
-      free-open e {tag} {after} (tag-is, after-is) =
-          let bytes : length c ≡ 0 → ⊥ = λ z. omega (arith, stands .some) in
-          let now : bindingsOf packet key after ≡ bindTag β (f .tag) b =
-          ap (bindingsOf packet key) after-is ∙ bound-bindings room packet key (f .tag) at (length c) not-bound bytes in
-          record {
-            leads = rw now (pattern-leads (crosses-free ∙ e));
-            back = rw (now, tag-is) (bound-back room packet key (f .tag) at (length c) not-bound bytes);
-            low = rw tag-is (bound-most (f .tag));
-            room = record { is = rw after-is (bound-long slots (f .tag) at (length c)) ∙ room .is };
-          }
+    -- it is named, and has this slot
+    module _ {w : Slot} (S : SlotOf slots (f .tag) w) where
+      -- the Tag is unbound
+      module _ (free : w .size ≡ 0) where
+        not-bound : bound β (f .tag) ≡ none
+        not-bound = unbound room packet key S free
 
-    -- the Tag is bound, and t says whether to an equal component
-    module _ (taken : w .size ≡ 0 → ⊥) {text : List ℕ} {t : Bool} (text-is : text ≡ textFrom packet key (w .start))
-        (h : t ≡ same (componentOf text) (componentOf c)) where
-      now-bound : bound β (f .tag) ≡ some (bindingAt packet key (w .start) (w .size))
-      now-bound = is-bound room packet key S taken
+        crosses-free : crosses β (componentOf c) (patternEdgeOf s) ≡ held
+        unfolding crosses patternEdgeOf
+        crosses-free = rw (← F .tag-is, not-bound) all-held
 
-      crosses-bound : {x y : Bool} → t ≡ x → held ≡ y → crosses β (componentOf c) (patternEdgeOf s) ≡ cond x y false
-      unfolding crosses patternEdgeOf boundTo bindingAt
-      crosses-bound {x} {y} p q = rw (← F .tag-is, now-bound, ← text-is, ← h, p, all-held, q) (and-cond x y)
+        pub free-shut : held ≡ false → Answer Shut slots
+        free-shut e = pattern-shut (crosses-free ∙ e)
 
-      pub bound-other : t ≡ false → Crossed packet key (edgeOf true s) b slots Shut slots
-      bound-other p = pattern-shut (crosses-bound p refl)
+        pub free-open : held ≡ true → f .tag ≤ count → {tag : ℕ} {after : List ℕ}
+            → (tag ≡ boundTag (f .tag)) × (after ≡ boundWords (f .tag) at (length c) slots) → Answer (Open (f .dest) tag) after
+        free-open e low {tag} {after} (tag-is, after-is) =
+            let bytes : length c ≡ 0 → ⊥ = λ z. omega (arith, stands .some) in
+            let now : bindingsOf packet key after ≡ bindTag count β (f .tag) b =
+            ap (bindingsOf packet key) after-is ∙ bound-bindings room packet key count (f .tag) at (length c) low not-bound bytes in
+            record {
+              leads = rw now (pattern-leads (crosses-free ∙ e));
+              back = rw (now, tag-is) (bound-back room packet key count (f .tag) at (length c) low not-bound bytes);
+              low = rw tag-is (bound-most (f .tag));
+              room = record { is = rw after-is (bound-long slots (f .tag) at (length c)) ∙ room .is };
+            }
 
-      pub bound-shut : t ≡ true → held ≡ false → Crossed packet key (edgeOf true s) b slots Shut slots
-      bound-shut p q = pattern-shut (crosses-bound p q)
+      -- the Tag is bound, and t says whether to an equal component
+      module _ (taken : w .size ≡ 0 → ⊥) {text : List ℕ} {t : Bool} (text-is : text ≡ textFrom packet key (w .start))
+          (h : t ≡ same (componentOf text) (componentOf c)) where
+        now-bound : bound β (f .tag) ≡ some (bindingAt packet key (w .start) (w .size))
+        now-bound = is-bound room packet key S taken
 
-      -- a bound Tag keeps its first place
-      pub bound-open : t ≡ true → held ≡ true → Crossed packet key (edgeOf true s) b slots (Open (f .dest) 0) slots
-      unfolding without bound bindTag
-      bound-open p q =
-          record {
-            leads = pattern-leads (crosses-bound p q) ∙ rw (stays (f .tag) now-bound);
-            back = refl;
-            low = omega arith;
-            room = room;
-          }
-        where
-          stays : {o : Binding} (x : ℕ) → bound β x ≡ some o → bindTag β x b ≡ β
-          stays zero e = let z : _≡_ {A = ℕ} 0 1 = cc in absurd (omega arith)
-          stays (suc j) e = rw e
+        crosses-bound : {x y : Bool} → t ≡ x → held ≡ y → crosses β (componentOf c) (patternEdgeOf s) ≡ cond x y false
+        unfolding crosses patternEdgeOf boundTo bindingAt
+        crosses-bound {x} {y} p q = rw (← F .tag-is, now-bound, ← text-is, ← h, p, all-held, q) (and-cond x y)
+
+        pub bound-other : t ≡ false → Answer Shut slots
+        bound-other p = pattern-shut (crosses-bound p refl)
+
+        pub bound-shut : t ≡ true → held ≡ false → Answer Shut slots
+        bound-shut p q = pattern-shut (crosses-bound p q)
+
+        -- a bound Tag keeps its first place
+        pub bound-open : t ≡ true → held ≡ true → Answer (Open (f .dest) 0) slots
+        bound-open p q = pattern-open (crosses-bound p q) (bound-stays count β (f .tag) b now-bound)
+
+-- ---- any edge
+
+-- only named Tags are bound after it
+pub crossed-named : {count : ℕ} {packet key before after : List ℕ} {e : Edge} {b : Binding} (r : Crossing)
+    → OnlyNamed count (bindingsOf packet key before) → Crossed count packet key e b before r after → OnlyNamed count (bindingsOf packet key after)
+unfolding leadsTo without
+crossed-named {count} Shut named crossed = subst (OnlyNamed count) (sym (crossed .back)) named
+crossed-named {count} {packet} {key} {before} {after} {e} {b} (Open d t) named crossed =
+    let (s, a, k) = bind-from (bindingsAfter count (bindingsOf packet key before) b e) _ (crossed .leads) in
+    let same-bindings = ap (λ (x : Match). x .bindings) (Option·some-injective _ _ k) in
+    subst (OnlyNamed count) same-bindings (named-after count (bindingsOf packet key before) b e named a)

@@ -54,9 +54,9 @@ pub record FieldsOf (s : List ℕ) (f : PatternFields) : Type 0 where
   pub within : f .rest ≤ length s
   pub constraints : insides type.Constraint (drop (f .rest) s) ≡ insides type.Constraint s
 
--- where an edge leads with the component of b, and the bindings there; nothing where it is not crossed
-unfoldable pub leadsTo : Bindings → Binding → Edge → Option Match
-leadsTo s b e = bind (bindingsAfter s b e) λ t. some (record { node = destination e; bindings = t })
+-- where an edge leads with the component of b, and the bindings there; nothing where it is not crossed. `count` Tags are named
+unfoldable pub leadsTo : ℕ → Bindings → Binding → Edge → Option Match
+leadsTo count s b e = bind (bindingsAfter count s b e) λ t. some (record { node = destination e; bindings = t })
 
 -- the match that a crossing stands for, with these bindings after it
 abbrev pub reached : Crossing → Bindings → Option Match
@@ -68,13 +68,13 @@ abbrev pub newTag : Crossing → ℕ
 newTag Shut = 0
 newTag (Open d t) = t
 
-pub record Crossed (packet key : List ℕ) (e : Edge) (b : Binding) (before : List ℕ) (r : Crossing) (after : List ℕ) : Type 0 where
-  pub leads : leadsTo (bindingsOf packet key before) b e ≡ reached r (bindingsOf packet key after)
+pub record Crossed (count : ℕ) (packet key : List ℕ) (e : Edge) (b : Binding) (before : List ℕ) (r : Crossing) (after : List ℕ) : Type 0 where
+  pub leads : leadsTo count (bindingsOf packet key before) b e ≡ reached r (bindingsOf packet key after)
   pub back : without (newTag r) (bindingsOf packet key after) ≡ bindingsOf packet key before
   pub low : newTag r ≤ maxTag
   pub room : Room after
 
--- a ValueEdge binds nothing, so that it is crossed alike under all bindings
+-- a ValueEdge binds nothing, so that it is crossed alike under all bindings and counts
 pub record CrossedValue (s c : List ℕ) (r : Crossing) : Type 0 where
-  pub leads : (β : Bindings) (b : Binding) → b .component .content ≡ componentOf c → leadsTo β b (edgeOf false s) ≡ reached r β
+  pub leads : (count : ℕ) (β : Bindings) (b : Binding) → b .component .content ≡ componentOf c → leadsTo count β b (edgeOf false s) ≡ reached r β
   pub binds-none : newTag r ≡ 0

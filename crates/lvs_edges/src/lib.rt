@@ -1,7 +1,7 @@
 // A Node's edges, and crossing one with a component. Below the search, so that whoever follows a given path needs no search.
 //
-// `packet` and `key` are the two names, `slots` the bindings as they stand, and `c` the bytes of the component that is to pass, which
-// stands at `at` of the names' text. `requires` asks for that.
+// `named` is NamedPatternCnt: a Tag above it is temporary, and has no binding. `packet` and `key` are the two names, `slots` the bindings as they
+// stand, and `c` the bytes of the component that is to pass, which stands at `at` of the names' text. `requires` asks for that.
 pub mod nodes;
 
 ghost use mathlib.Core.Path.{_≡_};
@@ -10,7 +10,8 @@ ghost use lib.ListN.{length};
 ghost use Rattle.tlv.specs.Fields.{theInside, theInteger};
 ghost use Rattle.lvs_spec.specs.Types as type;
 ghost use Rattle.lvs_names.specs.Contents.{Alone};
-ghost use Rattle.lvs_bindings.specs.Slots.{Room, bindingAt};
+ghost use Rattle.lvs_spec.specs.Demands.{OnlyNamed};
+ghost use Rattle.lvs_bindings.specs.Slots.{Room, bindingAt, bindingsOf};
 ghost use Rattle.lvs_edges.specs.Edges.{edgeOf, EdgeFrom};
 ghost use Rattle.lvs_edges.specs.Crossing.{Stands, PlainNode, PlainValue, PlainPattern, FieldsOf, Crossed, CrossedValue};
 use lvs_bindings::SLOT_WORDS;
@@ -76,6 +77,7 @@ pub fn edge_from(s: &[u8], at: usize) -> EdgeRead
 pub fn cross<'a>(
     s: &[u8],
     pattern: bool,
+    named: u64,
     packet: &'a [u8],
     key: &'a [u8],
     at: usize,
@@ -83,12 +85,13 @@ pub fn cross<'a>(
     slots: &mut [u32; SLOT_WORDS],
 ) -> Crossing
     requires { ⌜ Room (now slots) ⌝ }
+    requires { ⌜ OnlyNamed named (bindingsOf (now packet) (now key) (now slots)) ⌝ }
     requires { ⌜ Stands (now packet) (now key) at (now c) ⌝ }
-    ensures { λ r. ⌜ Crossed (now (packet .entry)) (now (key .entry)) (edgeOf pattern (now (s .entry)))
+    ensures { λ r. ⌜ Crossed named (now (packet .entry)) (now (key .entry)) (edgeOf pattern (now (s .entry)))
         (bindingAt (now (packet .entry)) (now (key .entry)) at (length (now (c .entry)))) (now (slots .entry)) r (now (slots .exit)) ⌝ }
 {
     if pattern {
-        return cross_pattern(s, packet, key, at, c, slots);
+        return cross_pattern(s, named, packet, key, at, c, slots);
     }
     cross_value(s, c)
 }
@@ -104,9 +107,11 @@ fn cross_value(s: &[u8], c: &[u8]) -> Crossing
     Crossing::Shut
 }
 
-// Crosses a PatternEdge: a bound Tag is compared, and an unbound one is bound. Constraints are tested before that.
+// Crosses a PatternEdge: a bound Tag is compared, and an unbound one is bound. Constraints are tested before that; for a temporary Tag they are
+// all there is to test.
 fn cross_pattern<'a>(
     s: &[u8],
+    named: u64,
     packet: &'a [u8],
     key: &'a [u8],
     at: usize,
@@ -114,20 +119,26 @@ fn cross_pattern<'a>(
     slots: &mut [u32; SLOT_WORDS],
 ) -> Crossing
     requires { ⌜ Room (now slots) ⌝ }
+    requires { ⌜ OnlyNamed named (bindingsOf (now packet) (now key) (now slots)) ⌝ }
     requires { ⌜ Stands (now packet) (now key) at (now c) ⌝ }
-    ensures { λ r. ⌜ Crossed (now (packet .entry)) (now (key .entry)) (edgeOf true (now (s .entry)))
+    ensures { λ r. ⌜ Crossed named (now (packet .entry)) (now (key .entry)) (edgeOf true (now (s .entry)))
         (bindingAt (now (packet .entry)) (now (key .entry)) at (length (now (c .entry)))) (now (slots .entry)) r (now (slots .exit)) ⌝ }
 {
     let fields = pattern_fields(s);
     let tag = fields.tag;
-    let dest = fields.dest;
     let rest = fields.rest;
+    if named < tag {
+        if lvs_constraints::constraints_hold(&s[rest..], packet, key, slots, c) {
+            return Crossing::Open(fields.dest, 0);
+        }
+        return Crossing::Shut;
+    }
     let slot = lvs_bindings::slot_of(slots, tag);
     if slot.size == 0 {
         if !lvs_constraints::constraints_hold(&s[rest..], packet, key, slots, c) {
             return Crossing::Shut;
         }
-        return Crossing::Open(dest, lvs_bindings::bind_tag(slots, tag, at, c.len()));
+        return Crossing::Open(fields.dest, lvs_bindings::bind_tag(slots, tag, at, c.len()));
     }
     if !lvs_names::begins_with(lvs_bindings::text_from(packet, key, slot.start as usize), c) {
         return Crossing::Shut;
@@ -135,7 +146,7 @@ fn cross_pattern<'a>(
     if !lvs_constraints::constraints_hold(&s[rest..], packet, key, slots, c) {
         return Crossing::Shut;
     }
-    Crossing::Open(dest, 0)
+    Crossing::Open(fields.dest, 0)
 }
 
 // Where an edge leads. Here and below a plain edge's fields are read by their places, and any other edge is searched for them.

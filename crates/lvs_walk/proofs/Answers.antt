@@ -10,7 +10,9 @@ use Rattle.lvs_spec.specs.Names.{Component}
 use Rattle.lvs_spec.specs.Walk.{Match, Pair, Event, looked, found, continue, answers, noBindings, begin, packetTrace, packetMatches}
 use Rattle.lvs_spec.specs.Walk.{keyTrace, lists, signed, signTrace, pairTrace, pairs}
 use Rattle.lvs_spec.specs.Answers.{SignAnswer, pairFound}
+use Rattle.lvs_spec.specs.Demands.{OnlyNamed}
 use Rattle.lvs_spec.proofs.Lists.{clash}
+use Rattle.lvs_spec.proofs.Temporary.{none-named}
 use Rattle.lvs_names.specs.Rows.{rowFrom}
 use Rattle.lvs_bindings.specs.Slots.{Room, binding, bindingsOf}
 use Rattle.lvs_walk.specs.Search.{Hit, listed, worth, hits, firstFound, rowFor, hitOf, First}
@@ -25,6 +27,9 @@ none-bound packet key e = rw e
 
 pub clear-room : {slots : List ℕ} → slots ≡ clear → Room slots
 clear-room e = record { is = rw e }
+
+pub clear-named : (count : ℕ) (packet key : List ℕ) {slots : List ℕ} → slots ≡ clear → OnlyNamed count (bindingsOf packet key slots)
+clear-named count packet key e = rw (none-bound packet key e) (none-named count)
 
 -- ---- a trace that says the same in another way
 

@@ -7,6 +7,7 @@ use lib.ListN.{length, take, drop}
 use Rattle.tlv.specs.Lists.{each, onward}
 use Rattle.lvs_spec.specs.Model.{Edge, edges, nodeAt, modelOf}
 use Rattle.lvs_spec.specs.Walk.{Binding, Bindings, Match, Event, cross}
+use Rattle.lvs_spec.specs.Demands.{OnlyNamed}
 use Rattle.lvs_spec.proofs.Lists.{clash, orElse}
 use Rattle.lvs_bindings.specs.Slots.{Room, bindingAt, bindingsOf, clearedWords, without}
 use Rattle.lvs_bindings.proofs.Slots.{cleared-long, cleared-bindings}
@@ -27,6 +28,7 @@ use Rattle.lvs_walk.proofs.Hits.{found-append, looked-on, found-nothing
 -- what is looked for: the hits of the Node v with the component c and those after it; `bytes` has the Node's edges
 pub record Search : Type 0 where
   pub model : List ℕ
+  pub named : ℕ
   pub packet : List ℕ
   pub key : List ℕ
   pub goal : Goal
@@ -54,19 +56,28 @@ onwards S = hits (modelOf (S .model)) (S .key) (S .goal) (S .cs)
 abbrev left : Search → ℕ → List (Event Hit)
 left S at = each (tried (modelOf (S .model)) (S .key) (S .goal) (S .c) (S .cs) (here S)) (fileEdges (drop at (S .bytes)))
 
--- no edge before this place has a hit, and the bindings are as they were
+-- no edge before this place has a hit, and the bindings are as they were, of named Tags only
 pub record Turn (S : Search) (slots : List ℕ) (at : ℕ) : Type 0 where
+  pub count : S .named ≡ modelOf (S .model) .patternCount
+  pub only-named : OnlyNamed (S .named) (bindings S (S .slots))
   pub kept : bindings S slots ≡ bindings S (S .slots)
   pub room : Room slots
   pub so-far : firstFound (whole S) ≡ firstFound (left S at)
 
-pub turn-first : (S : Search) → Room (S .slots) → fileEdges (S .bytes) ≡ edges (nodeAt (modelOf (S .model)) (S .v)) → Turn S (S .slots) 0
-turn-first S room e =
+pub turn-first : (S : Search) → S .named ≡ modelOf (S .model) .patternCount → OnlyNamed (S .named) (bindings S (S .slots)) → Room (S .slots)
+    → fileEdges (S .bytes) ≡ edges (nodeAt (modelOf (S .model)) (S .v)) → Turn S (S .slots) 0
+turn-first S count only-named room e =
     record {
+      count = count;
+      only-named = only-named;
       kept = refl;
       room = room;
       so-far = ap firstFound (hits-step (modelOf (S .model)) (S .key) (S .goal) (S .c) (S .cs) (here S) ∙ ap (each _) (sym e));
     }
+
+-- only named Tags are bound at each turn
+pub turn-named : {S : Search} {slots : List ℕ} {at : ℕ} → Turn S slots at → OnlyNamed (S .named) (bindings S slots)
+turn-named {S} t = subst (OnlyNamed (S .named)) (sym (t .kept)) (t .only-named)
 
 module _ {S : Search} {slots : List ℕ} {at : ℕ} (t : Turn S slots at) {read : EdgeRead} (edge : EdgeFrom (S .bytes) at read) where
   -- all edges are done
@@ -84,10 +95,10 @@ module _ {S : Search} {slots : List ℕ} {at : ℕ} (t : Turn S slots at) {read 
     e = edgeOf pattern (take (stop - start) (drop start (S .bytes)))
 
     -- its crossing r, with the slots after it
-    module _ {r : Crossing} {after : List ℕ} (crossed : Crossed (S .packet) (S .key) e (S .c) slots r after) where
+    module _ {r : Crossing} {after : List ℕ} (crossed : Crossed (S .named) (S .packet) (S .key) e (S .c) slots r after) where
       leads : cross (modelOf (S .model)) (S .c) (here S) e ≡ reached r (bindings S after)
       unfolding cross leadsTo
-      leads = rw (t .kept) at (crossed .leads)
+      leads = rw (t .kept, t .count) at (crossed .leads)
 
       step : firstFound (whole S) ≡ orElse (firstFound (onward (onwards S) (reached r (bindings S after)))) (firstFound (left S next))
       unfolding tried
@@ -102,6 +113,8 @@ module _ {S : Search} {slots : List ℕ} {at : ℕ} (t : Turn S slots at) {read 
       unfolding without firstFound
       turn-shut z =
           record {
+            count = t .count;
+            only-named = t .only-named;
             kept = (rw z at (crossed .back)) ∙ t .kept;
             room = crossed .room;
             so-far = rw z at step;
@@ -117,6 +130,8 @@ module _ {S : Search} {slots : List ℕ} {at : ℕ} (t : Turn S slots at) {read 
         pub turn-back : q ≡ Nothing → {now : List ℕ} → now ≡ clearedWords tag last → Turn S now next
         turn-back z {now} e =
             record {
+              count = t .count;
+              only-named = t .only-named;
               kept =
                   ap (bindings S) e ∙ cleared-bindings (S .packet) (S .key) tag last ∙ ap (without tag) (walked .kept z) ∙
                   (rw opened at (crossed .back)) ∙ t .kept;
@@ -130,10 +145,11 @@ module _ {S : Search} {slots : List ℕ} {at : ℕ} (t : Turn S slots at) {read 
 
 -- ---- a walk from a component on
 
-abbrev pub searchAt : List ℕ → List ℕ → List ℕ → Goal → ℕ → ℕ → ℕ → List ℕ → List ℕ → List ℕ → Search
-searchAt model packet key goal v stop text c slots bytes =
+abbrev pub searchAt : List ℕ → ℕ → List ℕ → List ℕ → Goal → ℕ → ℕ → ℕ → List ℕ → List ℕ → List ℕ → Search
+searchAt model named packet key goal v stop text c slots bytes =
     record {
       model = model;
+      named = named;
       packet = packet;
       key = key;
       goal = goal;
@@ -145,11 +161,11 @@ searchAt model packet key goal v stop text c slots bytes =
     }
 
 -- what is found for the component and those after it is what the walk looks for
-pub begun : (model : List ℕ) (v : ℕ) (slots : List ℕ) {packet key : List ℕ} {goal : Goal} {at stop text : ℕ} {c : List ℕ}
+pub begun : (model : List ℕ) (named v : ℕ) (slots : List ℕ) {packet key : List ℕ} {goal : Goal} {at stop text : ℕ} {c : List ℕ}
     → Component packet key goal at stop text c
-    → {r : Found} {after : List ℕ} → First packet key (whole (searchAt model packet key goal v stop text c slots [])) slots r after
+    → {r : Found} {after : List ℕ} → First packet key (whole (searchAt model named packet key goal v stop text c slots [])) slots r after
     → First packet key (hits (modelOf model) key goal (rowFor packet key goal at) (record { node = v; bindings = bindingsOf packet key slots })) slots r after
-begun model v slots C g = rw (C .row-is) g
+begun model named v slots C g = rw (C .row-is) g
 
 -- what the walks that a goal has ahead add to the measure
 abbrev pub ahead : List ℕ → Goal → ℕ

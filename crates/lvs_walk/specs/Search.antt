@@ -8,8 +8,9 @@ use mathlib.Core.Option.{Option, none, some}
 use lib.ListN.{length}
 use Rattle.tlv.specs.Lists.{each, when, first}
 use Rattle.lvs_spec.specs.Limits.{maxNameBytes}
-use Rattle.lvs_spec.specs.Model.{Model}
+use Rattle.lvs_spec.specs.Model.{Model, modelOf}
 use Rattle.lvs_spec.specs.Walk.{Binding, Match, Event, found, continue, answers, trace, keyTrace, packetRow, keyRow, lists}
+use Rattle.lvs_spec.specs.Demands.{OnlyNamed}
 use Rattle.lvs_names.specs.Rows.{rowFrom}
 use Rattle.lvs_bindings.specs.Slots.{Room, bindingsOf}
 use Rattle.lvs_edges.specs.Nodes.{NodesAt}
@@ -66,11 +67,13 @@ foundIf t p k = cond t (At p k) Nothing
 
 -- ---- what a walk asks and promises
 
-pub record Within (model places packet key slots : List ℕ) : Type 0 where
+pub record Within (model places : List ℕ) (named : ℕ) (packet key slots : List ℕ) : Type 0 where
   pub nodes : NodesAt model places
+  pub count : named ≡ modelOf model .patternCount
   pub packet-short : length packet ≤ maxNameBytes
   pub key-short : length key ≤ maxNameBytes
   pub room : Room slots
+  pub only-named : OnlyNamed named (bindingsOf packet key slots)
 
 -- a goal that goes on to the key knows where that starts
 abbrev pub Started : Model → Goal → Type 0

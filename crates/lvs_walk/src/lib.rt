@@ -3,12 +3,13 @@
 // A layer below the public calls, which refuse what is too long before they come here: that, places that `node_places` has filled, and
 // slots in which nothing is bound at the start, is what `requires` asks.
 //
-// `places` has the words of each Node, `packet` and `key` are the two names, `slots` the bindings as they stand.
+// `places` has the words of each Node, `named` is NamedPatternCnt, `packet` and `key` are the two names, `slots` the bindings as they stand.
 use lvs_bindings::SLOT_WORDS;
 use lvs_edges::Crossing;
 use lvs_edges::EdgeRead;
 use lvs_edges::nodes::PLACE_WORDS;
 use lvs_names::ComponentRead;
+use lvs_spec::types::NAMED_PATTERN_CNT;
 use lvs_spec::types::NODE_ID;
 ghost use mathlib.Core.Path.{_≡_};
 ghost use Prim.Native.Nat.{_+_, _≤_};
@@ -81,6 +82,7 @@ fn if_listed(model: &[u8], places: &[u32; PLACE_WORDS], packet: u64, node: u64) 
 fn walk<'a>(
     model: &[u8],
     places: &[u32; PLACE_WORDS],
+    named: u64,
     packet: &'a [u8],
     key: &'a [u8],
     goal: Goal,
@@ -88,7 +90,7 @@ fn walk<'a>(
     at: usize,
     slots: &mut [u32; SLOT_WORDS],
 ) -> Found
-    requires { ⌜ Within (now model) (now places) (now packet) (now key) (now slots) ⌝ }
+    requires { ⌜ Within (now model) (now places) named (now packet) (now key) (now slots) ⌝ }
     requires { ⌜ Started (modelOf (now model)) goal ⌝ }
     ensures { λ r. ⌜ First (now (packet .entry)) (now (key .entry))
         (hits (modelOf (now (model .entry))) (now (key .entry)) goal (rowFor (now (packet .entry)) (now (key .entry)) goal at)
@@ -101,7 +103,17 @@ fn walk<'a>(
             Goal::Match => Found::At(node, node),
             Goal::Packet { start, key_from } => {
                 let then = Goal::Key(node);
-                walk(model, places, packet, key, then, start, key_from, slots)
+                walk(
+                    model,
+                    places,
+                    named,
+                    packet,
+                    key,
+                    then,
+                    start,
+                    key_from,
+                    slots,
+                )
             }
             Goal::Key(p) => if_listed(model, places, p, node),
         };
@@ -118,9 +130,9 @@ fn walk<'a>(
             return Found::Nothing;
         };
         from = next;
-        let crossing = lvs_edges::cross(&edges[p..q], pattern, packet, key, text, c, slots);
+        let crossing = lvs_edges::cross(&edges[p..q], pattern, named, packet, key, text, c, slots);
         if let Crossing::Open(dest, bound) = crossing {
-            let r = walk(model, places, packet, key, goal, dest, end, slots);
+            let r = walk(model, places, named, packet, key, goal, dest, end, slots);
             if let Found::At(_, _) = r {
                 return r;
             }
@@ -143,9 +155,11 @@ pub fn find_match(
     ensures { λ r. ⌜ FirstMatch (modelOf (now (model .entry))) (rowFrom (now (name .entry)) from) (now (name .entry)) r (now (slots .exit)) ⌝ }
 {
     let start = tlv::number_in(model, NODE_ID);
+    let named = tlv::number_in(model, NAMED_PATTERN_CNT);
     walk(
         model,
         places,
+        named,
         name,
         &name[..0],
         Goal::Match,
@@ -169,11 +183,13 @@ pub fn find_pair<'a>(
     ensures { λ r. ⌜ FirstPair (modelOf (now (model .entry))) (rowFrom (now (packet .entry)) «packet_from») (rowFrom (now (key .entry)) «key_from») r ⌝ }
 {
     let start = tlv::number_in(model, NODE_ID);
+    let named = tlv::number_in(model, NAMED_PATTERN_CNT);
     let goal = Goal::Packet { start, key_from };
     let mut slots = [0u32; SLOT_WORDS];
     walk(
         model,
         places,
+        named,
         packet,
         key,
         goal,

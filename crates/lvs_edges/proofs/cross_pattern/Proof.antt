@@ -2,77 +2,101 @@
 use borrow.Author.Needs.{needs}
 use mathlib.Core.Path.{refl}
 use borrow.Author.Tests.{not-true, not-false}
-use Rattle.lvs_edges.proofs.Crossed.{free-shut, free-open, bound-other, bound-shut, bound-open}
+use Rattle.lvs_edges.proofs.Crossed.{temporary-shut, temporary-open, free-shut, free-open, bound-other, bound-shut, bound-open}
 use Rattle.lvs_edges.proofs.cross_pattern.Statement.{statement}
 use Rattle.lvs_edges.proofs.cross_pattern.Tie as tie
 
--- where the fields were read, and where the function began
+-- where the function began, and where the fields were read before the slot was
+abbrev start : tie.After-pattern-fields → tie.Start
+start f = f .before .before .before .before .before
+
 abbrev fields : tie.After-slot-of → tie.After-pattern-fields
-fields c = c .before .before
+fields s = s .before .before .before
 
-abbrev start : tie.After-slot-of → tie.Start
-start c = fields c .before .before .before .before .before
-
+-- the Tag is temporary
 returns : tie.Need-returns
 returns c =
-    let s = c .before .before .before .before .before .before in
-    let p = start s .pre in
-    let held = c .before .constraints-hold .ensures in
-    free-shut (p .0) (p .1) (fields s .pattern-fields .ensures) (s .slot-of .ensures) held (c .before .before .before .before .if1 .taken)
-    (not-true _ (c .if2 .taken))
+    let f = c .before .before .before .before .before in
+    let p = start f .pre in
+    temporary-open (p .0) (p .1 .0) (p .1 .1) (f .pattern-fields .ensures) (c .before .constraints-hold .ensures)
+    (c .before .before .before .before .if1 .taken) (c .if2 .taken)
 
 returns-2 : tie.Need-returns-2
 returns-2 c =
-    let s = c .before .before .before .before .before .before .before .before in
-    let p = start s .pre in
-    let held = c .before .before .before .constraints-hold .ensures in
-    free-open (p .0) (p .1) (fields s .pattern-fields .ensures) (s .slot-of .ensures) held
-    (c .before .before .before .before .before .before .if1 .taken) (not-false _ (c .before .before .if2 .left)) (c .bind-tag .ensures)
+    let f = c .before .before .before .before .before in
+    let p = start f .pre in
+    temporary-shut (p .0) (p .1 .0) (p .1 .1) (f .pattern-fields .ensures) (c .before .constraints-hold .ensures)
+    (c .before .before .before .before .if1 .taken) (c .if2 .left)
 
+-- it is named and unbound
 returns-3 : tie.Need-returns-3
 returns-3 c =
     let s = c .before .before .before .before .before .before in
-    let p = start s .pre in
-    bound-other (p .0) (p .1) (fields s .pattern-fields .ensures) (s .slot-of .ensures) refl (c .before .before .before .before .if1 .left)
-    (c .before .before .text-from .ensures) (c .before .begins-with .ensures) (not-true _ (c .if3 .taken))
+    let p = start (fields s) .pre in
+    free-shut (p .0) (p .1 .0) (p .1 .1) (fields s .pattern-fields .ensures) (c .before .constraints-hold2 .ensures) (s .slot-of .ensures)
+    (c .before .before .before .before .if3 .taken) (not-true _ (c .if4 .taken))
 
--- the same where the bound Tag was compared
 returns-4 : tie.Need-returns-4
 returns-4 c =
-    let s = c .before .before .before .before .before .before .before .before .before .before in
-    let p = start s .pre in
-    bound-shut (p .0) (p .1) (fields s .pattern-fields .ensures) (s .slot-of .ensures) (c .before .constraints-hold2 .ensures)
-    (c .before .before .before .before .before .before .before .before .if1 .left) (c .before .before .before .before .before .before .text-from .ensures)
-    (c .before .before .before .before .before .begins-with .ensures) (not-false _ (c .before .before .before .before .if3 .left)) (not-true _ (c .if4 .taken))
+    let s = c .before .before .before .before .before .before .before .before in
+    let p = start (fields s) .pre in
+    free-open (p .0) (p .1 .0) (p .1 .1) (fields s .pattern-fields .ensures) (c .before .before .before .constraints-hold2 .ensures) (s .slot-of .ensures)
+    (c .before .before .before .before .before .before .if3 .taken) (not-false _ (c .before .before .if4 .left)) (s .before .before .if1 .left)
+    (c .bind-tag .ensures)
 
+-- it is bound, to another component
 returns-5 : tie.Need-returns-5
 returns-5 c =
-    let s = c .before .before .before .before .before .before .before .before .before .before in
-    let p = start s .pre in
-    bound-open (p .0) (p .1) (fields s .pattern-fields .ensures) (s .slot-of .ensures) (c .before .constraints-hold2 .ensures)
-    (c .before .before .before .before .before .before .before .before .if1 .left) (c .before .before .before .before .before .before .text-from .ensures)
-    (c .before .before .before .before .before .begins-with .ensures) (not-false _ (c .before .before .before .before .if3 .left)) (not-false _ (c .if4 .left))
+    let s = c .before .before .before .before .before .before in
+    let p = start (fields s) .pre in
+    bound-other (p .0) (p .1 .0) (p .1 .1) (fields s .pattern-fields .ensures) refl (s .slot-of .ensures) (c .before .before .before .before .if3 .left)
+    (c .before .before .text-from .ensures) (c .before .begins-with .ensures) (not-true _ (c .if5 .taken))
+
+-- to an equal one
+returns-6 : tie.Need-returns-6
+returns-6 c =
+    let compared = c .before .before .before .before in
+    let s = compared .before .before .before .before .before .before in
+    let p = start (fields s) .pre in
+    bound-shut (p .0) (p .1 .0) (p .1 .1) (fields s .pattern-fields .ensures) (c .before .constraints-hold3 .ensures) (s .slot-of .ensures)
+    (compared .before .before .before .before .if3 .left) (compared .before .before .text-from .ensures) (compared .before .begins-with .ensures)
+    (not-false _ (compared .if5 .left)) (not-true _ (c .if6 .taken))
+
+returns-7 : tie.Need-returns-7
+returns-7 c =
+    let compared = c .before .before .before .before in
+    let s = compared .before .before .before .before .before .before in
+    let p = start (fields s) .pre in
+    bound-open (p .0) (p .1 .0) (p .1 .1) (fields s .pattern-fields .ensures) (c .before .constraints-hold3 .ensures) (s .slot-of .ensures)
+    (compared .before .before .before .before .if3 .left) (compared .before .before .text-from .ensures) (compared .before .begins-with .ensures)
+    (not-false _ (compared .if5 .left)) (not-false _ (c .if6 .left))
 
 pub cross-pattern-spec : {M : Type 1} → statement M
 cross-pattern-spec =
     tie.close
     (tie.spec
     (λ c κs. search needs)
-    (λ c κs. search needs)
     (λ c. search needs)
     (λ c. search needs)
     (λ c. search needs)
     (λ c κs. search needs)
     returns
-    (λ c κs. search needs)
     returns-2
-    (λ c. search needs)
     (λ c κs. search needs)
+    (λ c. search needs)
+    (λ c. search needs)
+    (λ c. search needs)
     (λ c κs. search needs)
     returns-3
+    (λ c κs. search needs)
+    returns-4
+    (λ c. search needs)
+    (λ c κs. search needs)
+    (λ c κs. search needs)
+    returns-5
     (λ c. search needs)
     (λ c. search needs)
     (λ c. search needs)
     (λ c κs. search needs)
-    returns-4
-    returns-5)
+    returns-6
+    returns-7)

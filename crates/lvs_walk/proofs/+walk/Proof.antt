@@ -13,11 +13,12 @@ use Rattle.lvs_spec.specs.Model.{modelOf}
 use Rattle.lvs_names.specs.Contents.{RowStep}
 use Rattle.lvs_edges.specs.Nodes.{BodyPart}
 use Rattle.lvs_edges.proofs.Places.{body-of-part}
+use Rattle.lvs_edges.proofs.Crossed.{crossed-named}
 use Rattle.lvs_walk.specs.Search.{nameFor, rowFor, Within}
 use Rattle.lvs_walk.specs.declared.Goal.{Goal}
 use Rattle.lvs_walk.proofs.Rows.{Component, name-short, has-component, no-component, component}
 use Rattle.lvs_walk.proofs.Hits.{end-match, end-packet, end-key}
-use Rattle.lvs_walk.proofs.Turns.{Turn, searchAt, begun, ahead, turn-first, turn-none, edge-at, turn-shut, turn-back, turn-found}
+use Rattle.lvs_walk.proofs.Turns.{Turn, searchAt, begun, ahead, turn-first, turn-named, turn-none, edge-at, turn-shut, turn-back, turn-found}
 use Rattle.lvs_walk.proofs.walk.Reads as walk
 use Rattle.lvs_walk.proofs.walk.Kinds as walk-kinds
 use Rattle.lvs_walk.proofs.+walk.Lts-walk as walk-lts
@@ -36,7 +37,7 @@ abbrev measure : List ℕ → List ℕ → Goal → ℕ → ℕ
 measure packet key goal at = length (nameFor packet key goal) - at + ahead key goal
 
 abbrev μ-walk : Measures 4 walk-kinds.ps ℕ
-μ-walk κs a = measure (a .1 .1 .0 .now) (a .1 .1 .1 .0 .now) (a .1 .1 .1 .1 .0) (a .1 .1 .1 .1 .1 .1 .0)
+μ-walk κs a = measure (a .1 .1 .1 .0 .now) (a .1 .1 .1 .1 .0 .now) (a .1 .1 .1 .1 .1 .0) (a .1 .1 .1 .1 .1 .1 .1 .0)
 
 abbrev walk-at : ℕ → In 4 walk-kinds.ps
 walk-at t = and 4 walk-kinds.ps (is 4 walk-kinds.ps μ-walk t) walk.Pre
@@ -68,11 +69,11 @@ calls t = (
 )
 
 abbrev Inv : walk-lts.InvT-loop
-Inv model places packet key goal node at slots₀ end c text a b edges from₀ slots from =
-    Turn (searchAt model packet key goal node end text c slots₀ edges) slots from
+Inv model places named packet key goal node at slots₀ end c text a b edges from₀ slots from =
+    Turn (searchAt model named packet key goal node end text c slots₀ edges) slots from
 
 abbrev μ : walk-lts.MeasureT-loop
-μ model places packet key goal node at slots₀ end c text a b edges from₀ slots from = length edges - from
+μ model places named packet key goal node at slots₀ end c text a b edges from₀ slots from = length edges - from
 
 -- a need, or a place of the code, with all this
 abbrev at : (walk-lts.Claims → In 4 walk-kinds.ps → Out 4 walk-kinds.ps walk-kinds.r → walk-lts.InvT-loop → walk-lts.MeasureT-loop → Type 0) → ℕ → Type 0
@@ -84,7 +85,7 @@ abbrev start : (t : ℕ) → at walk-lts.After-component-at t → at walk-lts.St
 start t c = c .before .before .before .before .before
 
 within : (t : ℕ) (c : at walk-lts.Start t)
-    → Within (c .args .model .now) (c .args .places .now) (c .args .packet .now) (c .args .key .now) (c .args .slots .now)
+    → Within (c .args .model .now) (c .args .places .now) (c .args .named) (c .args .packet .now) (c .args .key .now) (c .args .slots .now)
 within t c = c .pre .1 .0
 
 -- no component is left
@@ -203,13 +204,15 @@ part-edges-end t c = body t c .within
 -- ---- the loop over its edges
 
 loop-holds : (t : ℕ) → at walk-lts.Need-loop-holds t
-loop-holds t c = turn-first _ (within t (start t (c .before .before .before .before .before .before .before)) .room) (body t (c .before) .edges-are)
+loop-holds t c =
+    let w = within t (start t (c .before .before .before .before .before .before .before)) in
+    turn-first _ (w .count) (w .only-named) (w .room) (body t (c .before) .edges-are)
 
 returns-4 : (t : ℕ) → at walk-lts.Need-returns-4 t
 returns-4 t c =
     let l = c .before .before .before in
     let s = began t l in
-    begun (s .args .model .now) (s .args .node) (s .args .slots .now) (here t (node t l .before))
+    begun (s .args .model .now) (s .args .named) (s .args .node) (s .args .slots .now) (here t (node t l .before))
     (turn-none (l .loop .inv) (c .before .before .edge-from .ensures) (c .enum-told3 .given .1))
 
 sub-cross : (t : ℕ) → at walk-lts.Need-sub-cross t
@@ -230,7 +233,7 @@ part-cross-end t c =
 cross-requires : (t : ℕ) → at walk-lts.Need-cross-requires t
 cross-requires t c κs =
     let l = c .before .before .before .before .before .before in
-    (l .loop .inv .room, here t (node t l .before) .stands)
+    (l .loop .inv .room, (turn-named (l .loop .inv), here t (node t l .before) .stands))
 
 -- the edge is shut
 loop-less-2 : (t : ℕ) → at walk-lts.Need-loop-less-2 t
@@ -254,7 +257,14 @@ walk-requires-2 t c κs =
     let f = here t (node t l .before) in (
       omega (arith, s .pre .0, f .after, f .within),
       (
-        record { nodes = w .nodes; packet-short = w .packet-short; key-short = w .key-short; room = x .cross .ensures .room },
+        record {
+          nodes = w .nodes;
+          count = w .count;
+          packet-short = w .packet-short;
+          key-short = w .key-short;
+          room = x .cross .ensures .room;
+          only-named = crossed-named _ (turn-named (l .loop .inv)) (x .cross .ensures);
+        },
         s .pre .1 .1,
       ),
     )
@@ -264,7 +274,7 @@ returns-5 t c =
     let x = c .before .before .before .before .before .before .before in
     let l = turn t x in
     let s = began t l in
-    begun (s .args .model .now) (s .args .node) (s .args .slots .now) (here t (node t l .before))
+    begun (s .args .model .now) (s .args .named) (s .args .node) (s .args .slots .now) (here t (node t l .before))
     (turn-found (l .loop .inv) (edge t x .before .before .edge-from .ensures) (edge t x .pattern .given .1) (x .cross .ensures)
     (c .before .before .before .before .before .crossing .given .1) (c .before .before .walk2 .ensures) (c .enum-told4 .given .1))
 

@@ -2,26 +2,43 @@
 use native.Mathlib.Omega.{arith}
 use borrow.Author.Needs.{needs}
 use Rattle.lvs_spec.specs.Model.{modelOf}
-use Rattle.lvs_walk.proofs.Answers.{clear-room, match-first}
+use Rattle.lvs_walk.proofs.Answers.{clear-room, clear-named, match-first}
 use Rattle.lvs_walk.proofs.find_match.Statement.{statement}
 use Rattle.lvs_walk.proofs.find_match.Tie as tie
 
+-- where the function began
+abbrev began : tie.After-number-in2 → tie.Start
+began c = c .before .before .before .before
+
 walk-requires : tie.Need-walk-requires
+unfolding modelOf
 walk-requires c κs =
-    let s = c .before .before .before .before .before in
-    (record { nodes = s .pre .0; packet-short = s .pre .1 .0; key-short = omega arith; room = clear-room (s .pre .1 .1) }, tt)
+    let n = c .before .before in
+    let s = began n in (
+      record {
+        nodes = s .pre .0;
+        count = n .number-in2 .ensures;
+        packet-short = s .pre .1 .0;
+        key-short = omega arith;
+        room = clear-room (s .pre .1 .1);
+        only-named = clear-named _ _ _ (s .pre .1 .1);
+      },
+      tt,
+    )
 
 returns : tie.Need-returns
 unfolding modelOf
 returns c =
-    let s = c .before .before .before .before .before .before in
-    match-first (modelOf (s .args .model .now)) (s .args .name .now) (s .args .from) _ (c .before .before .before .number-in .ensures)
+    let n = c .before .before .before in
+    let s = began n in
+    match-first (modelOf (s .args .model .now)) (s .args .name .now) (s .args .from) _ (n .before .number-in .ensures)
     (s .pre .1 .1) (c .walk .ensures)
 
 pub find-match-spec : {M : Type 1} → statement M
 find-match-spec =
     tie.close
     (tie.spec
+    (λ c κs. search needs)
     (λ c κs. search needs)
     (λ c. search needs)
     walk-requires
