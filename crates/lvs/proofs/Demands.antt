@@ -8,17 +8,17 @@
 --
 -- The format, the walk and the refusal numbers are described in docs/format.md and defined in crates/lvs_spec/specs/; its Demands.antt has the
 -- terms used here, such as `SomeMatch`.
-use Prim.Native.Nat.{ℕ, _≤_}
+use Prim.Native.Nat.{ℕ, suc, _+_, _*_, _≤_, _<_}
 use mathlib.Core.Path.{_≡_, refl, sym, ap, _∙_}
 use mathlib.Core.Logic.{_↔_}
 use mathlib.Core.Bool.{true}
 use mathlib.Core.List.{List, _∷_, _++_, List·Memᴰ}
-use lib.ListN.{length}
+use lib.ListN.{length, getD}
 use contract.Lifetimes.{Lfts}
 use denote.Ref.{RefT, at-last}
 use Rattle.tlv.specs.Bytes.{Bytes}
 use Rattle.tlv.specs.Element.{Element, typeInRange, elementBytes, encode, InRange, Each}
-use Rattle.lvs_spec.specs.Limits.{maxModelBytes}
+use Rattle.lvs_spec.specs.Limits.{maxModelBytes, maxTag}
 use Rattle.lvs_spec.specs.Types as type
 use Rattle.lvs_spec.specs.Grammar.{meaning, optional, critical}
 use Rattle.lvs_spec.specs.WellFormed.{thisVersion}
@@ -28,13 +28,16 @@ use Rattle.lvs_spec.specs.Answers.{Outcome, matchRefused, matchOutcome, signAns
 use Rattle.lvs_spec.specs.Certificates.{suggestAnswer}
 use Rattle.lvs_spec.specs.Gaps.{bare, Inserted}
 use Rattle.lvs_spec.specs.Demands.{modelRefusals, matchRefusals, signRefusals, suggestRefusals, SomeMatch, NoMatch, SomeAllowed, NoneAllowed}
-use Rattle.lvs_spec.specs.Demands.{joined, FirstAllowed, NoCertificate, Alike, AllRefuse, unnamed}
+use Rattle.lvs_spec.specs.Demands.{joined, FirstAllowed, NoCertificate, Alike, AllRefuse, unnamed, counted}
 use Rattle.lvs_spec.proofs.Refusals.{verdict-number}
 use Rattle.lvs_spec.proofs.Matching.{MatchedBy, match-matched, match-some, match-none, match-number}
 use Rattle.lvs_spec.proofs.Signing.{SignedBy, sign-allowed, sign-some, sign-none, sign-number}
 use Rattle.lvs_spec.proofs.Suggesting.{suggest-number, suggest-first, suggest-none}
 use Rattle.lvs_spec.proofs.Buffer.{refused-keeps, no-match-keeps, answer-by-length}
-use Rattle.lvs_spec.proofs.Unnamed.{SameAnswers as SameDefined, accepted-same}
+use Rattle.lvs_spec.proofs.Temporary.{temporary-words, bound-few}
+use Rattle.lvs_spec.proofs.Same.{SameAnswers as SameDefined, accepted-same}
+use Rattle.lvs_spec.proofs.Unnamed.{same-unnamed}
+use Rattle.lvs_spec.proofs.Counts.{same-counts}
 use Rattle.lvs_spec.proofs.Demand3.{bare-alike, critical-refused, version-refused}
 use Rattle.lvs_spec.proofs.Optional.{optional-alike}
 use Rattle.lvs.specs.Answers.{verdictOf, matchAnswerOf, signAnswerOf, suggestAnswerOf}
@@ -160,6 +163,14 @@ module _ {model name buffer after : List ℕ} where
   -- it is the first; n Tags are bound, and the buffer holds their places, and after these what it held
   pub first-match : {v n : ℕ} → Matched model name buffer (matchings.Match v n) after → MatchedBy model name buffer v n after
   first-match {v} {n} c = rw (left c) (match-matched model name buffer v n (sym (answered c)))
+
+  -- the two words of a temporary Tag, suc i, are 0, and no more Tags are bound than are named
+  pub temporary-words-zero : {v n : ℕ} → Matched model name buffer (matchings.Match v n) after → (i : ℕ) → modelOf model .patternCount < suc i
+      → suc i ≤ maxTag → (getD after (i * 2) 0 ≡ 0) × (getD after (i * 2 + 1) 0 ≡ 0)
+  temporary-words-zero c = temporary-words (first-match c)
+
+  pub bound-at-most : {v n : ℕ} → Matched model name buffer (matchings.Match v n) after → n ≤ modelOf model .patternCount
+  bound-at-most c = bound-few (first-match c)
 
 -- the answer does not depend on what the buffer holds, only on its length
 pub buffer-unread : {model name buffer other after last : List ℕ} {r q : MatchAnswer} → length buffer ≡ length other
@@ -314,7 +325,13 @@ optional-changes-nothing b m bytes r = same-calls (bare-alike b m bytes r)
 pub texts-change-nothing : {a b : List ℕ} {i j : ℕ} → Judged a (verdicts.Accepted i) → Judged b (verdicts.Accepted j)
     → unnamed (modelOf a) ≡ unnamed (modelOf b) → SameAnswers a b
 texts-change-nothing {a} {b} {i} {j} c d e =
-    same-answers (accepted-same a b i j (sym (judged-is c)) (sym (judged-is d)) e)
+    same-answers (accepted-same a b i j (sym (judged-is c)) (sym (judged-is d)) (same-unnamed e))
+
+-- nor does a NamedPatternCnt of 128 or more, which makes every Tag named
+pub large-counts-alike : {a b : List ℕ} {i j : ℕ} → Judged a (verdicts.Accepted i) → Judged b (verdicts.Accepted j)
+    → maxTag ≤ modelOf a .patternCount → maxTag ≤ modelOf b .patternCount → counted maxTag (modelOf a) ≡ counted maxTag (modelOf b) → SameAnswers a b
+large-counts-alike {a} {b} {i} {j} c d l k e =
+    same-answers (accepted-same a b i j (sym (judged-is c)) (sym (judged-is d)) (same-counts l k e))
 
 -- a critical element x in any gap makes all calls refuse with 2, unless the model becomes too long
 pub critical-refuses : (b b′ : List ℕ) (m : Model) (x : Element) → reading b ≡ describes m → meaning (x .type) ≡ critical
