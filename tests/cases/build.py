@@ -100,16 +100,19 @@ def padded(short, size):
     return short + element(0x80, bytes(size - len(short) - 4))
 
 
-def tree(*branches, patterns=0):
+def tree(*branches, patterns=None):
     """A model from the paths of its leaves: [(edge, ..), .., signers], where an edge is a text, or (Tag, Constraint, ..).
 
-    Equal beginnings are one path. Nodes are numbered as the paths reach them, and Node 0 is the start.
+    Equal beginnings are one path. Nodes are numbered as the paths reach them, and Node 0 is the start. Without a count of patterns
+    the largest Tag of an edge is the last named one, so that no edge is temporary.
     """
-    children, parents, signers = [{}], [None], [()]
+    children, parents, signers, last_tag = [{}], [None], [()], 0
     for branch in branches:
         *edges, signed_by = branch
         at = 0
         for edge in edges:
+            if not isinstance(edge, str):
+                last_tag = max(last_tag, edge[0])
             if edge not in children[at]:
                 children[at][edge] = len(children)
                 children.append({})
@@ -124,7 +127,7 @@ def tree(*branches, patterns=0):
         rest += [pattern_edge(to, *edge) for edge, to in out.items() if not isinstance(edge, str)]
         rest += [signer(j) for j in signers[i]]
         nodes.append(node(i, *rest))
-    return model(*nodes, patterns=patterns)
+    return model(*nodes, patterns=last_tag if patterns is None else patterns)
 
 
 # cases of the driver lvs_cases

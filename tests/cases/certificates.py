@@ -349,7 +349,7 @@ def chains():
     yield "/a by itself or the empty name", suggest(signs_itself, SLASH_A, SLASH_B, EMPTY, SLASH_A), certificate(1)
 
 
-def documents():
+def documents(tutorial=TUTORIAL, quick=QUICK):
     """The certificates of the LVS documentation's blog: the root's, an admin's, authors' and a reader's."""
     root, reader = "/ndn/blog/KEY/1/self/1", "/ndn/blog/reader/200001/KEY/1/000001/1"
     own_reader, other_author = "/ndn/blog/reader/100001/KEY/1/000001/1", "/ndn/blog/author/100002/KEY/1/000001/1"
@@ -372,11 +372,11 @@ def documents():
         ("a name of no rule", "/ndn/blog", [root, ADMIN_KEY, AUTHOR_KEY, reader], "none"),
         ("no certificate", article, [], "none"),
     ):
-        yield f"tutorial, {what}", suggest(TUTORIAL, path(packet), *map(path, uris)), answer
+        yield f"tutorial, {what}", suggest(tutorial, path(packet), *map(path, uris)), answer
     author, admin, root = "/a/blog/author/xinyu/KEY/1/admin/1", "/a/blog/admin/admin/KEY/1/root/1", "/a/blog/KEY/1/self/1"
     article = "/a/blog/article/math/2022/03"
     for packet, answer in ((article, certificate(2)), (author, certificate(1)), (admin, certificate(0)), (root, "none")):
-        yield f"quick example, {packet}", suggest(QUICK, path(packet), *map(path, (root, admin, author))), answer
+        yield f"quick example, {packet}", suggest(quick, path(packet), *map(path, (root, admin, author))), answer
 
 
 def fields(case):
@@ -388,15 +388,19 @@ def fields(case):
         at = end
 
 
+def as_lists(cases):
+    """Each pair of names that these cases sign, as a list with that key alone, and twice."""
+    pairs = {tuple(fields(case)): (what, line) for what, case, line in cases if case[:1] == b"S"}
+    for (of, packet, key), (what, line) in pairs.items():
+        assert line == "not allowed" or line.startswith("allowed")
+        answer = "none" if line == "not allowed" else certificate(0)
+        yield f"{what}, as a list", suggest(of, packet, key), answer
+        yield f"{what}, as a list of two", suggest(of, packet, key, key), answer
+
+
 def signing():
-    """Each pair of names that other tables sign, as a list with that key alone, and twice."""
     for table in walks, document_003:
-        pairs = {tuple(fields(case)): (what, line) for what, case, line in table.cases() if case[:1] == b"S"}
-        for (of, packet, key), (what, line) in pairs.items():
-            assert line == "not allowed" or line.startswith("allowed")
-            answer = "none" if line == "not allowed" else certificate(0)
-            yield f"{what}, as a list", suggest(of, packet, key), answer
-            yield f"{what}, as a list of two", suggest(of, packet, key, key), answer
+        yield from as_lists(table.cases())
 
 
 def optional():

@@ -1,8 +1,9 @@
 """Light VerSec's own documentation (the team's source document 003): the three checks of its quick example and the ten of its
 tutorial, on models encoded by hand.
 
-Each occurrence of a temporary pattern has a Tag of its own, as 000 says. What 003 prints as True is "allowed" here, with the nodes at
-which the two rules end; False is "not allowed".
+In QUICK and TUTORIAL each occurrence of a temporary pattern has a Tag of its own, as 000 says; temporary.py has the same rules with
+Tags that occurrences share. What 003 prints as True is "allowed" here, with the nodes at which the two rules end; False is
+"not allowed".
 """
 from build import *
 
@@ -12,15 +13,22 @@ def key(*tags):
     return ["KEY", *((n,) for n in tags)]
 
 
-# Tags: 1 category, 2 year, 3 month, 4 role, 5 author, 6 admin; 7 to 15 are temporary
+# Tags: 1 category, 2 year, 3 month, 4 role, 5 author, 6 admin; others are temporary
 ROOT, ARTICLE, ADMIN, AUTHOR = 6, 10, 16, 22
-QUICK = tree(
-    ["a", "blog", *key(7, 8, 9), ()],  # #root: Nodes 1 to 6
-    ["a", "blog", "article", (1,), (2,), (3,), (AUTHOR,)],  # #article: Nodes 7 to 10
-    ["a", "blog", "admin", (6,), *key(10, 11, 12), (ROOT,)],  # #admin: Nodes 11 to 16
-    ["a", "blog", (4, must_be("author")), (5,), *key(13, 14, 15), (ADMIN,)],  # #author: Nodes 17 to 22
-    patterns=6,
-)
+
+
+def quick(root, admin, author, patterns=6):
+    """The quick example, by the Tags of #KEY in each rule that has it."""
+    return tree(
+        ["a", "blog", *key(*root), ()],  # #root: Nodes 1 to 6
+        ["a", "blog", "article", (1,), (2,), (3,), (AUTHOR,)],  # #article: Nodes 7 to 10
+        ["a", "blog", "admin", (6,), *key(*admin), (ROOT,)],  # #admin: Nodes 11 to 16
+        ["a", "blog", (4, must_be("author")), (5,), *key(*author), (ADMIN,)],  # #author: Nodes 17 to 22
+        patterns=patterns,
+    )
+
+
+QUICK = quick((7, 8, 9), (10, 11, 12), (13, 14, 15))
 
 QUICK_CHECKS = (
     ("/a/blog/article/math/2022/03", "/a/blog/author/xinyu/KEY/1/admin/1", f"allowed {ARTICLE} {AUTHOR}"),
@@ -28,18 +36,25 @@ QUICK_CHECKS = (
     ("/a/blog/author/xinyu/KEY/1/admin/1", "/a/blog/KEY/1/self/1", "not allowed"),
 )
 
-# Tags: 1 adminID, 2 ID, 3 year, 4 articleID; 5 to 19 are temporary, each _role too
+# Tags: 1 adminID, 2 ID, 3 year, 4 articleID; others are temporary
 T_ROOT, T_ADMIN, T_AUTHOR, T_USER, T_ARTICLE = 6, 12, 18, 24, 28
 VALID_ID = constraint(option(call("$isValidID")))
 VALID_YEAR = constraint(option(call("$isValidYear")))
-TUTORIAL = tree(
-    ["ndn", "blog", *key(5, 6, 7), ()],  # #root: Nodes 1 to 6
-    ["ndn", "blog", (8, must_be("admin")), (1,), *key(9, 10, 11), (T_ROOT,)],  # #admin: Nodes 7 to 12
-    ["ndn", "blog", (12, must_be("author")), (2, VALID_ID), *key(13, 14, 15), (T_ADMIN,)],  # #author: Nodes 13 to 18
-    ["ndn", "blog", (16, must_be("reader", "author")), (2, VALID_ID), *key(17, 18, 19), (T_ADMIN,)],  # #user: Nodes 19 to 24
-    ["ndn", "blog", (2,), "post", (3, VALID_YEAR), (4,), (T_ADMIN, T_AUTHOR)],  # #article: Nodes 25 to 28
-    patterns=4,
-)
+
+
+def tutorial(root, admin, author, user, patterns=4):
+    """The tutorial, by the Tags of #KEY in each rule that has it, with that of _role before them where the rule has one."""
+    return tree(
+        ["ndn", "blog", *key(*root), ()],  # #root: Nodes 1 to 6
+        ["ndn", "blog", (admin[0], must_be("admin")), (1,), *key(*admin[1:]), (T_ROOT,)],  # #admin: Nodes 7 to 12
+        ["ndn", "blog", (author[0], must_be("author")), (2, VALID_ID), *key(*author[1:]), (T_ADMIN,)],  # #author: Nodes 13 to 18
+        ["ndn", "blog", (user[0], must_be("reader", "author")), (2, VALID_ID), *key(*user[1:]), (T_ADMIN,)],  # #user: Nodes 19 to 24
+        ["ndn", "blog", (2,), "post", (3, VALID_YEAR), (4,), (T_ADMIN, T_AUTHOR)],  # #article: Nodes 25 to 28
+        patterns=patterns,
+    )
+
+
+TUTORIAL = tutorial((5, 6, 7), (8, 9, 10, 11), (12, 13, 14, 15), (16, 17, 18, 19))
 
 ADMIN_KEY = "/ndn/blog/admin/000001/KEY/1/root/1"
 AUTHOR_KEY = "/ndn/blog/author/100001/KEY/1/000001/1"

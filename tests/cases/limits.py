@@ -28,19 +28,20 @@ def nodes():
 def tags():
     """Tag 128 is the last, whatever holds it: its words are 254 and 255."""
 
+    def with_edge(n, *constraints, **rest):
+        return model(node(0, pattern_edge(1, n, *constraints)), node(1, parent(0), signer(1)), patterns=128, **rest)
+
     def on_edge(n):
-        return model(node(0, pattern_edge(1, n)), node(1, parent(0), signer(1)))
+        return with_edge(n)
 
     def in_option(n):
-        return model(node(0, pattern_edge(1, 1, constraint(option(tag(n)), option(value("a"))))), node(1, parent(0), signer(1)))
+        return with_edge(1, constraint(option(tag(n)), option(value("a"))))
 
     def in_argument(n):
-        return model(
-            node(0, pattern_edge(1, 1, constraint(option(call("$eq", tag(n))), option(value("a"))))), node(1, parent(0), signer(1))
-        )
+        return with_edge(1, constraint(option(call("$eq", tag(n))), option(value("a"))))
 
     def in_symbol(n):
-        return model(node(0, pattern_edge(1, 1)), node(1, parent(0), signer(1)), behind=symbol(n, "last"))
+        return with_edge(1, behind=symbol(n, "last"))
 
     for where, of, bound in (
         ("an edge", on_edge, 128),

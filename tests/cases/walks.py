@@ -37,6 +37,7 @@ def left_behind():
         node(7, parent(5), pattern_edge(8, 3)),
         node(8, parent(7)),
         node(9, parent(6)),
+        patterns=4,
     )
     yield "slip 1: in the key's walk", sign(keys, path("/a/p"), path("/k/b/c")), "allowed 4 8"
 
@@ -81,7 +82,7 @@ def parents():
     yield "mutual parents, another component", match(LOOP, path("/a/a/b"), OLD), kept("no match")
     yield "mutual parents, signing", sign(LOOP, path("/a/a/a"), path("/a/a")), "allowed 1 0"
     # a Node that is its own parent, with a Tag that each turn has to keep
-    itself = model(node(0, parent(0), pattern_edge(0, 1), signer(0)))
+    itself = model(node(0, parent(0), pattern_edge(0, 1), signer(0)), patterns=1)
     yield "its own parent", match(itself, path("/a/a/a"), OLD), matched(0, (1, 2, 3))
     yield "its own parent, another component", match(itself, path("/a/a/b"), OLD), kept("no match")
     yield "its own parent, signing", sign(itself, path("/a"), path("/a/a")), "allowed 0 0"
@@ -144,7 +145,7 @@ def bindings():
 
 def constraints():
     def one(*held):
-        return tree([(1, *held), ()])
+        return tree([(1, *held), ()], patterns=2)  # Tag 2 is named too, and on no edge
 
     a, aa = path("/a"), path("/a/a")
     good = matched(1, (1, 2, 3))
@@ -170,7 +171,7 @@ def constraints():
 
 def functions():
     def holds(function, *terms):
-        return tree([(1,), (2, constraint(option(call(function, *terms)))), ()])
+        return tree([(1,), (2, constraint(option(call(function, *terms)))), ()], patterns=3)  # Tag 3 is on no edge
 
     two = (1, 2, 3)
     yield "$eq of a Value", match(holds("$eq", value("b")), AB, OLD), matched(2, two, (2, 5, 3))
@@ -204,7 +205,7 @@ def texts():
         named = model(
             node(0, *map(rule_name, rules), pattern_edge(1, 1)),
             node(1, parent(0), *map(rule_name, rules), signer(1)),
-            patterns=len(symbols),
+            patterns=1,
             behind=b"".join(symbol(*s) for s in symbols),
         )
         yield f"RuleNames and TagSymbols: {what}", match(named, path("/a"), OLD), matched(1, (1, 2, 3))
