@@ -388,14 +388,15 @@ def fields(case):
         at = end
 
 
-def as_lists(cases):
+def as_lists(cases, is_twice=True):
     """Each pair of names that these cases sign, as a list with that key alone, and twice."""
     pairs = {tuple(fields(case)): (what, line) for what, case, line in cases if case[:1] == b"S"}
     for (of, packet, key), (what, line) in pairs.items():
         assert line == "not allowed" or line.startswith("allowed")
         answer = "none" if line == "not allowed" else certificate(0)
         yield f"{what}, as a list", suggest(of, packet, key), answer
-        yield f"{what}, as a list of two", suggest(of, packet, key, key), answer
+        if is_twice:
+            yield f"{what}, as a list of two", suggest(of, packet, key, key), answer
 
 
 def signing():

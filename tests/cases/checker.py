@@ -2,6 +2,7 @@
 from bench import A, B, B_PARENT_1, EMPTY, OTHER_VERSION_CUT, SLASH_A, SLASH_B
 from build import *
 from document_003 import QUICK, QUICK_CHECKS, TUTORIAL, TUTORIAL_CHECKS
+from temporary import QUICK_SHARED, TUTORIAL_SHARED, with_count
 
 
 def names(packet, key):
@@ -35,6 +36,7 @@ def models():
 def answers():
     example = request(SLASH_A, SLASH_A) + request(SLASH_A, SLASH_B) + request(SLASH_A, bytes.fromhex("0701"))
     yield "the format's example", B, example, "model 2 nodes\n1 allowed 1 1\n2 not allowed\n3 refused 25\n"
+    yield "the same without a named pattern", with_count(B, 0), example, "model 2 nodes\n1 allowed 1 1\n2 allowed 1 1\n3 refused 25\n"
     yield "no request", B, b"", HEAD
     yield "names of no bytes", B, request(b"", b"") + request(SLASH_A, b""), HEAD + "1 refused 22\n2 refused 25\n"
     longest = name("x" * 1016)
@@ -47,6 +49,8 @@ def answers():
     for what, of, head, checks in (
         ("quick example", QUICK, "model 23 nodes\n", QUICK_CHECKS),
         ("tutorial", TUTORIAL, "model 29 nodes\n", TUTORIAL_CHECKS),
+        ("quick example, temporary Tags shared", QUICK_SHARED, "model 23 nodes\n", QUICK_CHECKS),
+        ("tutorial, temporary Tags shared", TUTORIAL_SHARED, "model 29 nodes\n", TUTORIAL_CHECKS),
     ):
         asked = b"".join(request(path(packet), path(by)) for packet, by, _ in checks)
         yield what, of, asked, head + "".join(f"{k} {answer}\n" for k, (_, _, answer) in enumerate(checks, 1))
