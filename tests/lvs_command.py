@@ -31,6 +31,7 @@ from build import *  # noqa: E402, F403
 from lvs_command import answers, description, driver, refusals, text as text_form  # noqa: E402
 from random_models import canonical, random_models  # noqa: E402
 from run_cases import TABLES, table  # noqa: E402
+from temporary import TUTORIAL_SHARED, with_count  # noqa: E402
 from texts import A_TEXT, B_TEXT, LEAST  # noqa: E402
 
 EXAMPLE = (ROOT / "example/model.lvs").read_bytes()
@@ -55,6 +56,12 @@ NAMED = model(
 )
 CYCLE = model(node(0, parent(1), value_edge(1, "a")), node(1, parent(0), value_edge(0, "b")))
 ANY = tree([(1,), (2,), (3,), (4,), (5,), (6,), (7,), ()])  # seven components, each bound
+# Tags 2 to 5 are temporary, on edges and in terms, with symbols of every kind and without
+TEMPORARY = tree(
+    [(1,), (2,), (2, constraint(option(tag(1)), option(tag(2)))), (3,)],
+    [(3, must_be("x")), (4, constraint(option(call("$eq", tag(5))), option(value("y")))), ()],
+    patterns=1,
+) + symbol(1, "user") + symbol(2, "_role") + symbol(3, "part") + symbol(4, "_")
 
 
 def chain(count):
@@ -83,6 +90,9 @@ FILES = {
     "named.lvs": NAMED,
     "cycle.lvs": CYCLE,
     "any.lvs": ANY,
+    "none-named.lvs": with_count(B, 0),
+    "shared.lvs": TUTORIAL_SHARED,
+    "temporary.lvs": TEMPORARY,
     "longest.lvs": padded(A, 32768),
     "r1.lvs": padded(A, 32769),
     "r1-driver.lvs": padded(A, 65536),
@@ -186,6 +196,15 @@ def match_runs():
     yield Run(["match", "any.lvs", "/" + "/".join(parts)], 0, "match: node 7, 7 tags bound\n" + texts)
     yield Run(["match", "any.lvs", "/9=a/1=%0A/é/a%62/32=.../a/b"], 0, "match: node 7, 7 tags bound\n"
               "  tag 1 = 9=a\n  tag 2 = 1=%0A\n  tag 3 = %C3%A9\n  tag 4 = ab\n  tag 5 = 32=...\n  tag 6 = a\n  tag 7 = b\n")
+    # temporary patterns are not shown as bound
+    yield Run(["match", "none-named.lvs", "/a"], 0, "match: node 1, 0 tags bound\n")
+    yield Run(["match", "shared.lvs", AUTHOR], 0, "match: node 18, 1 tag bound\n  tag 2 = 100001\n")
+    yield Run(["match", "temporary.lvs", "/a/b/a"], 0, "match: node 3, 1 tag bound\n  user = a\n")
+    yield Run(["match", "temporary.lvs", "/a/b/b"], 1, "no match\n")  # the option that names Tag 2 does not hold
+    yield Run(["match", "temporary.lvs", "/x/y"], 0, "match: node 2, 1 tag bound\n  user = x\n")
+    yield Run(["match", "--json", "none-named.lvs", "/a"], 0, '{"answer": "match", "node": 1, "rules": [], "bound": 0, "bindings": []}\n')
+    yield Run(["match", "--json", "temporary.lvs", "/a/b/a"], 0, '{"answer": "match", "node": 3, "rules": [], "bound": 1, "bindings": '
+              '[{"tag": 1, "symbol": "user", "component": "a", "start": 2, "length": 3}]}\n')
     for text, number in bad_names():
         yield Run(["match", "example.lvs", text], 2, REFUSED[number] + "\n")
         yield Run(["match", "r7.lvs", text], 2, REFUSED[7] + "\n")
@@ -204,6 +223,10 @@ def sign_runs():
     yield Run(["sign", "example.lvs", ARTICLE, ROOT_KEY], 1, "not allowed\n")
     yield Run(["sign", "named.lvs", "/v=3/x", "/v=3"], 0, "allowed: packet at node 3 (#end), key at node 1 (#time, #v)\n")
     yield Run(["sign", "named.lvs", "/v=3/x", "/me"], 0, "allowed: packet at node 3 (#end), key at node 2\n")
+    yield Run(["sign", "b.lvs", "/a", "/b"], 1, "not allowed\n")
+    yield Run(["sign", "none-named.lvs", "/a", "/b"], 0, "allowed: packet at node 1, key at node 1\n")
+    admin = "/ndn/blog/admin/000001/KEY/1/root/1"
+    yield Run(["sign", "shared.lvs", AUTHOR, admin], 0, "allowed: packet at node 18, key at node 12\n")
     for text, number in bad_names():
         yield Run(["sign", "example.lvs", text, ROOT_KEY], 2, REFUSED[number] + "\n")
         yield Run(["sign", "example.lvs", ARTICLE, text], 2, REFUSED[number + 3] + "\n")
@@ -321,6 +344,7 @@ def suggest_runs():
     # which lines are entries, and names as they are written
     yield suggest_run(["/a"], 0, "/a\n")
     yield suggest_run(["/b", "/a", "/a"], 0, "/a\n")
+    yield suggest_run(["/b", "/a", "/a"], 0, "/b\n", file="none-named.lvs")
     yield suggest_run(["# x", "", "  ", "\t/b \r", "#/a", " # /a", "\t ndn:/%61/ \r", "/a", ""], 0, "ndn:/%61/\n")
     yield suggest_run(["\ufeff/8=a", "/a"], 0, "/8=a\n")
     yield suggest_run(["/b", "0x0703080161", "/a"], 0, "0x0703080161\n")
@@ -434,27 +458,27 @@ node 0 (start)
   "ndn" -> node 1
     "blog" -> node 2
       "KEY" -> node 3
-        tag 5 -> node 4
-          tag 6 -> node 5
-            tag 7 -> node 6
-      tag 8 & {"admin"} -> node 7
+        _ (tag 5) -> node 4
+          _ (tag 6) -> node 5
+            _ (tag 7) -> node 6
+      _ (tag 8) & {"admin"} -> node 7
         tag 1 -> node 8
           "KEY" -> node 9
-            tag 9 -> node 10
-              tag 10 -> node 11
-                tag 11 -> node 12, signed by node 6
-      tag 12 & {"author"} -> node 13
+            _ (tag 9) -> node 10
+              _ (tag 10) -> node 11
+                _ (tag 11) -> node 12, signed by node 6
+      _ (tag 12) & {"author"} -> node 13
         tag 2 & {$isValidID()} -> node 14
           "KEY" -> node 15
-            tag 13 -> node 16
-              tag 14 -> node 17
-                tag 15 -> node 18, signed by node 12
-      tag 16 & {"reader" | "author"} -> node 19
+            _ (tag 13) -> node 16
+              _ (tag 14) -> node 17
+                _ (tag 15) -> node 18, signed by node 12
+      _ (tag 16) & {"reader" | "author"} -> node 19
         tag 2 & {$isValidID()} -> node 20
           "KEY" -> node 21
-            tag 17 -> node 22
-              tag 18 -> node 23
-                tag 19 -> node 24, signed by node 12
+            _ (tag 17) -> node 22
+              _ (tag 18) -> node 23
+                _ (tag 19) -> node 24, signed by node 12
       tag 2 -> node 25
         "post" -> node 26
           tag 3 & {$isValidYear()} -> node 27
@@ -471,11 +495,34 @@ node 0 (#top, start)
     part (tag 2) & {"x" | user} -> node 3 (#end), signed by node 2, node 1 (#time, #v)
         optional element 0x80, 3 bytes, in the Constraint
   user -> node 2
-    part (tag 3) & {} & {$eq(user) | $eq_type("a%3Db")} -> node 4, signed by node 3 (#end)
+    _part (tag 3) & {} & {$eq(user) | $eq_type("a%3Db")} -> node 4, signed by node 3 (#end)
 not reachable from the start:
 node 5
   "y" -> node 6
       optional element 0xFFFE, 0 bytes, in the ValueEdge
+""")
+    yield Run(["tree", "none-named.lvs"], 0, """\
+accepted: 2 nodes
+start at node 0, 0 named patterns
+node 0 (start)
+  _ (tag 1) -> node 1, signed by node 1
+""")
+    yield Run(["tree", "b.lvs"], 0, """\
+accepted: 2 nodes
+start at node 0, 1 named pattern
+node 0 (start)
+  tag 1 -> node 1, signed by node 1
+""")
+    yield Run(["tree", "temporary.lvs"], 0, """\
+accepted: 6 nodes
+start at node 0, 1 named pattern
+symbols: tag 1 = user, tag 2 = _role, tag 3 = part, tag 4 = _
+node 0 (start)
+  user -> node 1
+    _role (tag 2) -> node 2
+      _role (tag 2) & {user | _role (tag 2)} -> node 3, signed by node 3
+  _part (tag 3) & {"x"} -> node 4
+    _ (tag 4) & {$eq(_ (tag 5)) | "y"} -> node 5
 """)
     yield Run(["tree", "cycle.lvs"], 0, """\
 accepted: 2 nodes
@@ -502,10 +549,10 @@ node 0 (start)
         8: '1 node, start at node 0, 0 named patterns\nnode 0 (start)  <- refused 8\n  "a" -> node 9 (no such node)\n',
         9: "2 nodes, start at node 0, 0 named patterns\nnode 0 (start)\nnot reachable from the start:\n"
            "node 1, signed by node 4 (no such node)  <- refused 9\n",
-        10: '2 nodes, start at node 0, 0 named patterns\nnode 0 (start)  <- refused 10\n  tag 1 & {() | ("a" tag 2)} -> node 1\n',
+        10: '2 nodes, start at node 0, 0 named patterns\nnode 0 (start)  <- refused 10\n  _ (tag 1) & {() | ("a" _ (tag 2))} -> node 1\n',
         11: '3 nodes, start at node 0, 0 named patterns\nnode 0 (start)  <- refused 11\n  "a" -> node 1 (parent 2)\n  "b" -> node 2 (no parent)\n',
         12: "3 nodes, start at node 0, 0 named patterns\nnode 0 (start)\nnot reachable from the start:\n"
-            "node 1  <- refused 12\n  tag 1 & {$no()} -> node 2\n",
+            "node 1  <- refused 12\n  _ (tag 1) & {$no()} -> node 2\n",
     }.items():
         yield Run(["tree", f"r{number}.lvs"], 2, f"{REFUSED[number]}\n{rest}")
     lines = "".join("  " * i + f'"p" -> node {i}\n' for i in range(1, 1500))
@@ -523,12 +570,12 @@ def named_objects():
     yield {"answer": "accepted", "nodes": 7}
     symbols = [{"tag": tag, "symbol": text} for tag, text in ((1, "user"), (2, "part"), (3, "part"), (1, "again"))]
     yield {"start": 0, "named_patterns": 2, "symbols": symbols, "optional": [{"in": "TagSymbol", "type": 128, "bytes": 1}]}
-    yield shown(0, None, ["#top"], [{"to": 1, "value": "v=3", "optional": []}, {"to": 2, "tag": 1, "constraints": [], "optional": []}])
+    yield shown(0, None, ["#top"], [{"to": 1, "value": "v=3", "optional": []}, {"to": 2, "tag": 1, "temporary": False, "constraints": [], "optional": []}])
     options = [[{"value": "x"}], [{"tag": 1}]]
-    edge = {"to": 3, "tag": 2, "constraints": [options], "optional": [{"in": "Constraint", **abc}]}
+    edge = {"to": 3, "tag": 2, "temporary": False, "constraints": [options], "optional": [{"in": "Constraint", **abc}]}
     yield shown(1, 0, ["#time", "#v"], [edge], [], [{"in": "Node", **abc}])
     calls = [[{"function": "$eq", "arguments": [{"tag": 1}]}], [{"function": "$eq_type", "arguments": [{"value": "a%3Db"}]}]]
-    yield shown(2, 0, [], [{"to": 4, "tag": 3, "constraints": [[], calls], "optional": []}])
+    yield shown(2, 0, [], [{"to": 4, "tag": 3, "temporary": True, "constraints": [[], calls], "optional": []}])
     yield shown(3, 1, ["#end"], [], [2, 1])
     yield shown(4, 2, [], [], [3])
     yield shown(5, None, [], [{"to": 6, "value": "y", "optional": [{"in": "ValueEdge", "type": 0xFFFE, "bytes": 0}]}])

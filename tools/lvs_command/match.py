@@ -13,7 +13,7 @@ example:
     tag 4 = 1
 
 Of several matches the answer is the first. A tag is called by its symbol where the model
-has one, and a component is written as in a URI.
+has one, and a component is written as in a URI. The tag of a temporary pattern is never bound.
 """
 
 

@@ -69,6 +69,9 @@ class Model:
         self.symbols = []  # (Tag, symbol), in file order
         self.skipped = []  # at the top and in TagSymbols
 
+    def is_temporary(self, tag):
+        return tag > self.patterns
+
 
 def integer(inside):
     return int.from_bytes(inside, "big")
@@ -170,8 +173,13 @@ class Labels:
         return f"node {i}{' (' + ', '.join(notes) + ')' if notes else ''}"
 
     def tag(self, n):
-        """A Tag's symbol, with its number where another Tag has the same; its number alone where it has none."""
+        """A Tag's symbol, with its number where another Tag has the same; its number alone where it has none.
+
+        A temporary Tag begins with _, as in LVS text, and has its number too: many may be called _.
+        """
         symbol = self.symbols.get(n)
+        if self.model.is_temporary(n):
+            return f"_{(symbol or '').removeprefix('_')} (tag {n})"
         if symbol is None:
             return f"tag {n}"
         alone = list(self.symbols.values()).count(symbol) == 1

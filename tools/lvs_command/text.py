@@ -17,12 +17,12 @@ from .refusals import refusal
 FORMAT = """\
 the text:
   start INDEX                        the node where every name begins
-  patterns COUNT                     how many patterns are named (NamedPatternCnt)
+  patterns COUNT                     how many patterns are named: a tag above COUNT is temporary
   node INDEX                         a node, and below it what it has, each any number of times:
     parent INDEX                       the node whose edge leads here (at most one)
     rule #NAME                         a rule name
     edge value COMPONENT to INDEX      an edge for one component
-    edge tag NUMBER to INDEX           an edge for any component, which the tag is bound to
+    edge tag NUMBER to INDEX           an edge for any component, which a named tag is bound to
       constraint                         of the edge above; each has to hold
         option TERM                        of the constraint above; one has to hold
     signer INDEX                       a node whose keys may sign
@@ -31,6 +31,9 @@ the text:
 A TERM is `value COMPONENT`, `tag NUMBER` or a call with its arguments, as $eq(tag 1) and
 $isValidID(). A COMPONENT is written as in a URI: abc, %2F, v=3, 8=x, and ... for no bytes.
 Numbers are decimal. INDEX counts the nodes from 0, in the order of the text.
+
+A temporary tag, the _ of LVS text, is never bound: its components may differ wherever it is
+met, and a term that names it does not hold. The constraints of its edges count.
 
 Blanks at the beginning of a line have no meaning, and empty lines are skipped. // begins a
 comment, at the beginning of a line or after a blank: no word of the text has a / in it, while

@@ -14,10 +14,11 @@ example:
     "ndn" -> node 1
       "blog" -> node 2
         "KEY" -> node 3
-          tag 5 -> node 4
+          _ (tag 5) -> node 4
 
 A line is an edge and the node that it leads to, with its rule names in ( ) and its signers.
-"x" is a value, as in a URI; a tag is called by its symbol where the model has one. After &
+"x" is a value, as in a URI; a tag is called by its symbol where the model has one. _ begins a
+temporary pattern: its tag is above the number of named patterns, so it is never bound. After &
 come the edge's constraints, each in { } with | between its options. The nodes are in depth
 first order, each once: (above) is one that is there already.
 
@@ -141,15 +142,16 @@ def objects(model):
             "node_id": node.id,
             "parent": node.parent,
             "rules": node.rules,
-            "edges": list(map(edge_object, node.edges)),
+            "edges": [edge_object(model, edge) for edge in node.edges],
             "signers": node.signers,
             "optional": list(map(skipped_object, node.skipped)),
         }
 
 
-def edge_object(edge):
+def edge_object(model, edge):
     of = {"to": edge.to, **term_object(edge.value or edge.tag)}
     if edge.tag:
+        of["temporary"] = model.is_temporary(edge.tag.tag)
         of["constraints"] = [[list(map(term_object, option)) for option in options] for options in edge.constraints]
     return {**of, "optional": list(map(skipped_object, edge.skipped))}
 
