@@ -100,8 +100,8 @@ def tutorial():
     yield "tutorial, not allowed", model, article, build.path(author % "100002")
 
 
-def long_names():
-    """32 components and 1,024 bytes in each name, every component bound in one and compared in the other."""
+def long_names(what="long names", named=32):
+    """32 components and 1,024 bytes in each name, every component bound in one and compared in the other, if its Tag is named."""
     count = 32
     nodes = [build.node(0, build.pattern_edge(1, 1))]
     for i in range(1, count):
@@ -109,7 +109,7 @@ def long_names():
     nodes.append(build.node(count, build.parent(count - 1), build.signer(count)))
     name = build.name(*(f"{i:029}" for i in range(count - 1)), "x" * 57)
     assert len(name) == 1024
-    yield "long names", build.model(*nodes, patterns=count), name, name
+    yield what, build.model(*nodes, patterns=named), name, name
 
 
 def many_nodes():
@@ -152,17 +152,23 @@ def drawn(words, count):
         yield build.sign(model, name, name)
 
 
-def backtracking():
+def backtracking(what="deep backtracking", named=2):
     """Two ways from each Node to the next, and no signer: each pair of paths is tried."""
     both = lambda i: build.pattern_edge(i, 1) + build.pattern_edge(i, 2)
     nodes = [build.node(i, *([build.parent(i - 1)] if i else []), both(i + 1)) for i in range(6)]
     name = build.path("/a/a/a/a/a/a")
-    yield "deep backtracking", build.model(*nodes, build.node(6, build.parent(5)), patterns=2), name, name
+    yield what, build.model(*nodes, build.node(6, build.parent(5)), patterns=named), name, name
+
+
+def temporary():
+    """The same two with no Tag named: nothing is bound or compared."""
+    yield from long_names("long names, temporary", named=0)
+    yield from backtracking("deep backtracking, temporary", named=0)
 
 
 def signings():
     """(what, model, packet name, key name)"""
-    for calls in (tutorial, long_names, many_nodes, bushy_models, backtracking):
+    for calls in (tutorial, long_names, many_nodes, bushy_models, backtracking, temporary):
         yield from calls()
 
 
