@@ -20,7 +20,7 @@ use Rattle.lvs_bindings.specs.Slots.{Room, SlotOf, textFrom, bindingAt, binding
 use Rattle.lvs_bindings.specs.declared.Slot.{Slot}
 use Rattle.lvs_bindings.proofs.Slots.{to-end, unbound, is-bound, bound-most, bound-long, bound-bindings, bound-back}
 use Rattle.lvs_edges.specs.Edges.{edgeOf}
-use Rattle.lvs_edges.specs.Crossing.{Stands, FieldsOf, leadsTo, Crossed, CrossedValue}
+use Rattle.lvs_edges.specs.Crossing.{Stands, FieldsOf, leadsTo, openIf, Crossed, CrossedValue}
 use Rattle.lvs_edges.specs.declared.PatternFields.{PatternFields}
 use Rattle.lvs_edges.specs.declared.Crossing.{Crossing}
 use Rattle.lvs_edges.specs.declared.Crossing.the-variants.{Shut, Open}
@@ -88,10 +88,15 @@ module _ {count : ℕ} {packet key s c slots : List ℕ} {at : ℕ} {f : Pattern
   unfolding without
   pattern-shut e = record { leads = pattern-leads e; back = refl; low = omega arith; room = room }
 
-  -- it is crossed, and its Tag is not bound anew
-  pattern-open : crosses β (componentOf c) (patternEdgeOf s) ≡ true → bindTag count β (f .tag) b ≡ β → Answer (Open (f .dest) 0) slots
+  -- its Tag is not bound anew
+  pattern-kept : {t : Bool} → crosses β (componentOf c) (patternEdgeOf s) ≡ t → bindTag count β (f .tag) b ≡ β
+      → {r : Crossing} → r ≡ openIf t (f .dest) → Answer r slots
   unfolding without
-  pattern-open e same-bindings = record { leads = pattern-leads e ∙ rw same-bindings; back = refl; low = omega arith; room = room }
+  pattern-kept {t} e same-bindings {r} r-is = rw r-is (go t e)
+    where
+      go : (t : Bool) → crosses β (componentOf c) (patternEdgeOf s) ≡ t → Answer (openIf t (f .dest)) slots
+      go true e = record { leads = pattern-leads e ∙ rw same-bindings; back = refl; low = omega arith; room = room }
+      go false e = pattern-shut e
 
   module _ {held : Bool} (held-is : held ≡ all (constraintHolds β (componentOf c)) (patternEdgeOf part .constraints)) where
     -- the part that was tested has all Constraints of the edge
@@ -105,11 +110,8 @@ module _ {count : ℕ} {packet key s c slots : List ℕ} {at : ℕ} {f : Pattern
       unfolding patternEdgeOf
       crosses-temporary = temporary-crosses named (componentOf c) (patternEdgeOf s) (rw (← F .tag-is) temporary) ∙ all-held
 
-      pub temporary-shut : held ≡ false → Answer Shut slots
-      temporary-shut e = pattern-shut (crosses-temporary ∙ e)
-
-      pub temporary-open : held ≡ true → Answer (Open (f .dest) 0) slots
-      temporary-open e = pattern-open (crosses-temporary ∙ e) (temporary-stays count β (f .tag) b temporary)
+      pub temporary-crossed : {r : Crossing} → r ≡ openIf held (f .dest) → Answer r slots
+      temporary-crossed r-is = pattern-kept crosses-temporary (temporary-stays count β (f .tag) b temporary) r-is
 
     -- it is named, and has this slot
     module _ {w : Slot} (S : SlotOf slots (f .tag) w) where
@@ -144,19 +146,16 @@ module _ {count : ℕ} {packet key s c slots : List ℕ} {at : ℕ} {f : Pattern
         now-bound : bound β (f .tag) ≡ some (bindingAt packet key (w .start) (w .size))
         now-bound = is-bound room packet key S taken
 
-        crosses-bound : {x y : Bool} → t ≡ x → held ≡ y → crosses β (componentOf c) (patternEdgeOf s) ≡ cond x y false
+        crosses-bound : {x : Bool} → t ≡ x → crosses β (componentOf c) (patternEdgeOf s) ≡ cond x held false
         unfolding crosses patternEdgeOf boundTo bindingAt
-        crosses-bound {x} {y} p q = rw (← F .tag-is, now-bound, ← text-is, ← h, p, all-held, q) (and-cond x y)
+        crosses-bound {x} p = rw (← F .tag-is, now-bound, ← text-is, ← h, p, all-held) (and-cond x held)
 
         pub bound-other : t ≡ false → Answer Shut slots
-        bound-other p = pattern-shut (crosses-bound p refl)
-
-        pub bound-shut : t ≡ true → held ≡ false → Answer Shut slots
-        bound-shut p q = pattern-shut (crosses-bound p q)
+        bound-other p = pattern-shut (crosses-bound p)
 
         -- a bound Tag keeps its first place
-        pub bound-open : t ≡ true → held ≡ true → Answer (Open (f .dest) 0) slots
-        bound-open p q = pattern-open (crosses-bound p q) (bound-stays count β (f .tag) b now-bound)
+        pub bound-same : t ≡ true → {r : Crossing} → r ≡ openIf held (f .dest) → Answer r slots
+        bound-same p r-is = pattern-kept (crosses-bound p) (bound-stays count β (f .tag) b now-bound) r-is
 
 -- ---- any edge
 

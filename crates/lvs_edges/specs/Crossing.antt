@@ -1,7 +1,7 @@
 -- Crossing an edge: where it leads, the bindings before and after it, and how to take back what it bound.
 use Prim.Native.Nat.{ℕ, _-_, _≤_, _<_}
 use mathlib.Core.Path.{_≡_}
-use mathlib.Core.Bool.{false}
+use mathlib.Core.Bool.{Bool, false, cond}
 use mathlib.Core.List.{List}
 use mathlib.Core.Option.{Option, none, some}
 use lib.ListN.{length, drop, getD}
@@ -67,6 +67,10 @@ reached (Open d t) s = some (record { node = d; bindings = s })
 abbrev pub newTag : Crossing → ℕ
 newTag Shut = 0
 newTag (Open d t) = t
+
+-- an edge that binds nothing
+abbrev pub openIf : Bool → ℕ → Crossing
+openIf held d = cond held (Open d 0) Shut
 
 pub record Crossed (count : ℕ) (packet key : List ℕ) (e : Edge) (b : Binding) (before : List ℕ) (r : Crossing) (after : List ℕ) : Type 0 where
   pub leads : leadsTo count (bindingsOf packet key before) b e ≡ reached r (bindingsOf packet key after)

@@ -13,7 +13,7 @@ ghost use Rattle.lvs_names.specs.Contents.{Alone};
 ghost use Rattle.lvs_spec.specs.Demands.{OnlyNamed};
 ghost use Rattle.lvs_bindings.specs.Slots.{Room, bindingAt, bindingsOf};
 ghost use Rattle.lvs_edges.specs.Edges.{edgeOf, EdgeFrom};
-ghost use Rattle.lvs_edges.specs.Crossing.{Stands, PlainNode, PlainValue, PlainPattern, FieldsOf, Crossed, CrossedValue};
+ghost use Rattle.lvs_edges.specs.Crossing.{Stands, PlainNode, PlainValue, PlainPattern, FieldsOf, openIf, Crossed, CrossedValue};
 use lvs_bindings::SLOT_WORDS;
 use lvs_spec::types::NODE_ID;
 use lvs_spec::types::PATTERN_EDGE;
@@ -128,10 +128,8 @@ fn cross_pattern<'a>(
     let tag = fields.tag;
     let rest = fields.rest;
     if named < tag {
-        if lvs_constraints::constraints_hold(&s[rest..], packet, key, slots, c) {
-            return Crossing::Open(fields.dest, 0);
-        }
-        return Crossing::Shut;
+        let held = lvs_constraints::constraints_hold(&s[rest..], packet, key, slots, c);
+        return open_if(held, fields.dest);
     }
     let slot = lvs_bindings::slot_of(slots, tag);
     if slot.size == 0 {
@@ -143,10 +141,18 @@ fn cross_pattern<'a>(
     if !lvs_names::begins_with(lvs_bindings::text_from(packet, key, slot.start as usize), c) {
         return Crossing::Shut;
     }
-    if !lvs_constraints::constraints_hold(&s[rest..], packet, key, slots, c) {
-        return Crossing::Shut;
+    let held = lvs_constraints::constraints_hold(&s[rest..], packet, key, slots, c);
+    open_if(held, fields.dest)
+}
+
+// Crosses an edge that binds nothing, where the Constraints have held.
+fn open_if(held: bool, dest: u64) -> Crossing
+    ensures { λ r. ⌜ r ≡ openIf held dest ⌝ }
+{
+    if held {
+        return Crossing::Open(dest, 0);
     }
-    Crossing::Open(fields.dest, 0)
+    Crossing::Shut
 }
 
 // Where an edge leads. Here and below a plain edge's fields are read by their places, and any other edge is searched for them.

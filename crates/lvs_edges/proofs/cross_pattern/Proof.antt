@@ -2,7 +2,7 @@
 use borrow.Author.Needs.{needs}
 use mathlib.Core.Path.{refl}
 use borrow.Author.Tests.{not-true, not-false}
-use Rattle.lvs_edges.proofs.Crossed.{temporary-shut, temporary-open, free-shut, free-open, bound-other, bound-shut, bound-open}
+use Rattle.lvs_edges.proofs.Crossed.{temporary-crossed, free-shut, free-open, bound-other, bound-same}
 use Rattle.lvs_edges.proofs.cross_pattern.Statement.{statement}
 use Rattle.lvs_edges.proofs.cross_pattern.Tie as tie
 
@@ -18,58 +18,41 @@ returns : tie.Need-returns
 returns c =
     let f = c .before .before .before .before .before in
     let p = start f .pre in
-    temporary-open (p .0) (p .1 .0) (p .1 .1) (f .pattern-fields .ensures) (c .before .constraints-hold .ensures)
-    (c .before .before .before .before .if1 .taken) (c .if2 .taken)
-
-returns-2 : tie.Need-returns-2
-returns-2 c =
-    let f = c .before .before .before .before .before in
-    let p = start f .pre in
-    temporary-shut (p .0) (p .1 .0) (p .1 .1) (f .pattern-fields .ensures) (c .before .constraints-hold .ensures)
-    (c .before .before .before .before .if1 .taken) (c .if2 .left)
+    temporary-crossed (p .0) (p .1 .0) (p .1 .1) (f .pattern-fields .ensures) (c .before .constraints-hold .ensures)
+    (c .before .before .before .before .if1 .taken) (c .open-if .ensures)
 
 -- it is named and unbound
-returns-3 : tie.Need-returns-3
-returns-3 c =
+returns-2 : tie.Need-returns-2
+returns-2 c =
     let s = c .before .before .before .before .before .before in
     let p = start (fields s) .pre in
     free-shut (p .0) (p .1 .0) (p .1 .1) (fields s .pattern-fields .ensures) (c .before .constraints-hold2 .ensures) (s .slot-of .ensures)
-    (c .before .before .before .before .if3 .taken) (not-true _ (c .if4 .taken))
+    (c .before .before .before .before .if2 .taken) (not-true _ (c .if3 .taken))
 
-returns-4 : tie.Need-returns-4
-returns-4 c =
+returns-3 : tie.Need-returns-3
+returns-3 c =
     let s = c .before .before .before .before .before .before .before .before in
     let p = start (fields s) .pre in
     free-open (p .0) (p .1 .0) (p .1 .1) (fields s .pattern-fields .ensures) (c .before .before .before .constraints-hold2 .ensures) (s .slot-of .ensures)
-    (c .before .before .before .before .before .before .if3 .taken) (not-false _ (c .before .before .if4 .left)) (s .before .before .if1 .left)
+    (c .before .before .before .before .before .before .if2 .taken) (not-false _ (c .before .before .if3 .left)) (s .before .before .if1 .left)
     (c .bind-tag .ensures)
 
--- it is bound, to another component
-returns-5 : tie.Need-returns-5
-returns-5 c =
+-- it is bound, to another component or to an equal one
+returns-4 : tie.Need-returns-4
+returns-4 c =
     let s = c .before .before .before .before .before .before in
     let p = start (fields s) .pre in
-    bound-other (p .0) (p .1 .0) (p .1 .1) (fields s .pattern-fields .ensures) refl (s .slot-of .ensures) (c .before .before .before .before .if3 .left)
-    (c .before .before .text-from .ensures) (c .before .begins-with .ensures) (not-true _ (c .if5 .taken))
+    bound-other (p .0) (p .1 .0) (p .1 .1) (fields s .pattern-fields .ensures) refl (s .slot-of .ensures) (c .before .before .before .before .if2 .left)
+    (c .before .before .text-from .ensures) (c .before .begins-with .ensures) (not-true _ (c .if4 .taken))
 
--- to an equal one
-returns-6 : tie.Need-returns-6
-returns-6 c =
+returns-5 : tie.Need-returns-5
+returns-5 c =
     let compared = c .before .before .before .before in
     let s = compared .before .before .before .before .before .before in
     let p = start (fields s) .pre in
-    bound-shut (p .0) (p .1 .0) (p .1 .1) (fields s .pattern-fields .ensures) (c .before .constraints-hold3 .ensures) (s .slot-of .ensures)
-    (compared .before .before .before .before .if3 .left) (compared .before .before .text-from .ensures) (compared .before .begins-with .ensures)
-    (not-false _ (compared .if5 .left)) (not-true _ (c .if6 .taken))
-
-returns-7 : tie.Need-returns-7
-returns-7 c =
-    let compared = c .before .before .before .before in
-    let s = compared .before .before .before .before .before .before in
-    let p = start (fields s) .pre in
-    bound-open (p .0) (p .1 .0) (p .1 .1) (fields s .pattern-fields .ensures) (c .before .constraints-hold3 .ensures) (s .slot-of .ensures)
-    (compared .before .before .before .before .if3 .left) (compared .before .before .text-from .ensures) (compared .before .begins-with .ensures)
-    (not-false _ (compared .if5 .left)) (not-false _ (c .if6 .left))
+    bound-same (p .0) (p .1 .0) (p .1 .1) (fields s .pattern-fields .ensures) (c .before .constraints-hold3 .ensures) (s .slot-of .ensures)
+    (compared .before .before .before .before .if2 .left) (compared .before .before .text-from .ensures) (compared .before .begins-with .ensures)
+    (not-false _ (compared .if4 .left)) (c .open-if2 .ensures)
 
 pub cross-pattern-spec : {M : Type 1} → statement M
 cross-pattern-spec =
@@ -80,23 +63,23 @@ cross-pattern-spec =
     (λ c. search needs)
     (λ c. search needs)
     (λ c κs. search needs)
+    (λ c κs. search needs)
     returns
+    (λ c κs. search needs)
+    (λ c. search needs)
+    (λ c. search needs)
+    (λ c. search needs)
+    (λ c κs. search needs)
     returns-2
     (λ c κs. search needs)
-    (λ c. search needs)
-    (λ c. search needs)
+    returns-3
     (λ c. search needs)
     (λ c κs. search needs)
-    returns-3
     (λ c κs. search needs)
     returns-4
     (λ c. search needs)
-    (λ c κs. search needs)
-    (λ c κs. search needs)
-    returns-5
-    (λ c. search needs)
     (λ c. search needs)
     (λ c. search needs)
     (λ c κs. search needs)
-    returns-6
-    returns-7)
+    (λ c κs. search needs)
+    returns-5)
