@@ -147,6 +147,11 @@ impl<'a> PatternEdge<'a> {
 }
 
 impl<'a> Model<'a> {
+    /// Whether a Tag is named. The others are temporary: no walk binds them.
+    pub fn is_named(&self, tag: u64) -> bool {
+        tag <= self.named_pattern_count
+    }
+
     /// Reads a model; its numbers and counts are not tested.
     pub fn parse(bytes: &'a [u8]) -> Result<Self, Unreadable> {
         let mut contents = Contents::new(bytes);

@@ -1,6 +1,7 @@
 //! The depth-first walk of a name through a model.
 //!
-//! Only models that [`crate::verdict::load`] accepts may be walked.
+//! Only models that [`crate::verdict::load`] accepts may be walked. Named Tags
+//! are bound by the first edge that is crossed, temporary ones never.
 
 use std::ops::ControlFlow;
 
@@ -38,6 +39,17 @@ impl<'n> Bindings<'n> {
     /// The component bound to a Tag.
     pub fn get(&self, tag: u64) -> Option<Component<'n>> {
         self.slots[slot_of(tag)].map(|bound| bound.component)
+    }
+
+    /// Binds the Tag of an edge that is crossed, if it is named and unbound;
+    /// tells whether it did.
+    pub fn bind_crossed(
+        &mut self,
+        model: &Model,
+        edge: &PatternEdge,
+        component: PlacedComponent<'n>,
+    ) -> bool {
+        model.is_named(edge.tag) && self.bind_if_unbound(edge.tag, component)
     }
 
     /// Binds a Tag unless it is bound; tells whether it wasn't.
@@ -89,7 +101,7 @@ fn walk_from<'n, T>(
     }
     for edge in &node.pattern_edges {
         if may_cross(edge, first.component, bindings) {
-            let is_new = bindings.bind_if_unbound(edge.tag, first);
+            let is_new = bindings.bind_crossed(model, edge, first);
             let flow = walk_from(model, edge.destination, rest, bindings, visit);
             if is_new {
                 bindings.unbind(edge.tag);
@@ -101,7 +113,9 @@ fn walk_from<'n, T>(
 }
 
 /// Whether the edge may be crossed with this component under the bindings as
-/// they stand before the edge.
+/// they stand before the edge. A temporary Tag is never bound, and that is all:
+/// its edge has no component to be compared with, and no option or argument
+/// that names it holds.
 pub fn may_cross(edge: &PatternEdge, component: Component, bindings: &Bindings) -> bool {
     bindings
         .get(edge.tag)

@@ -202,7 +202,7 @@ fn lengths_at_the_borders_of_the_forms() {
     for length in (200..260).chain([32_000]) {
         for (parts, texts, elements) in with_text(length) {
             let numbers = [&[0, 0, 1, 0, 1, 0][..], &parts, &[0]].concat();
-            let expected = model(0, &[node(0, Some(0), &[elements])]);
+            let expected = counted_model(0, 0, &[node(0, Some(0), &[elements])]);
             assert_describes(&numbers, &texts, &expected);
         }
     }

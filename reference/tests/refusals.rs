@@ -40,7 +40,7 @@ fn model_with(faults: &Faults) -> Vec<u8> {
     }
     let version = if has(3) { VERSION + 1 } else { VERSION };
     let start = if has(7) { 999 } else { 0 };
-    let mut bytes = [head(version, start), nodes.concat()].concat();
+    let mut bytes = [head(version, start, ALL_NAMED), nodes.concat()].concat();
     if has(1) {
         bytes.extend(element(0x80, &[0; 32_768]));
     }

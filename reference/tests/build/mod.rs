@@ -114,25 +114,34 @@ pub fn tag_symbol(symbol_tag: u64, text: &str) -> Vec<u8> {
 
 pub const VERSION: u32 = 0x0001_1000;
 
+/// A NamedPatternCnt that leaves no Tag temporary.
+pub const ALL_NAMED: u64 = 128;
+
 /// What stands before the Nodes.
-pub fn head(version: u32, start: u64) -> Vec<u8> {
+pub fn head(version: u32, start: u64, named: u64) -> Vec<u8> {
     [
         element(0x61, &version.to_be_bytes()),
         integer(0x25, start),
-        integer(0x69, 0),
+        integer(0x69, named),
     ]
     .concat()
 }
 
-/// A model with this start and these Nodes and TagSymbols.
+/// A model with this start and these Nodes and TagSymbols; all Tags are named.
 pub fn model(start: u64, parts: &[Vec<u8>]) -> Vec<u8> {
-    [head(VERSION, start), parts.concat()].concat()
+    counted_model(ALL_NAMED, start, parts)
+}
+
+/// A model whose Tags up to this one are named.
+pub fn counted_model(named: u64, start: u64, parts: &[Vec<u8>]) -> Vec<u8> {
+    [head(VERSION, start, named), parts.concat()].concat()
 }
 
 /// Nodes as rules are added to them, as a compiler of LVS text does.
 #[derive(Default)]
 pub struct Schema {
     nodes: Vec<SchemaNode>,
+    named: u64,
     next_temporary: u64,
 }
 
@@ -148,7 +157,7 @@ struct SchemaNode {
 #[derive(Clone)]
 pub enum Step {
     Value(&'static str),
-    /// A named pattern's Tag and its Constraints.
+    /// A pattern's Tag and its Constraints.
     Pattern(u64, Vec<Vec<u8>>),
     /// A temporary pattern, which gets a Tag of its own, and its Constraints.
     Temporary(Vec<Vec<u8>>),
@@ -159,6 +168,7 @@ impl Schema {
     pub fn new(named: u64) -> Self {
         Schema {
             nodes: vec![SchemaNode::default()],
+            named,
             next_temporary: named + 1,
         }
     }
@@ -197,13 +207,18 @@ impl Schema {
     }
 
     pub fn encode(&self) -> Vec<u8> {
+        self.encode_counted(self.named)
+    }
+
+    /// The model with another NamedPatternCnt.
+    pub fn encode_counted(&self, named: u64) -> Vec<u8> {
         let nodes: Vec<Vec<u8>> = self
             .nodes
             .iter()
             .enumerate()
             .map(Self::encode_node)
             .collect();
-        model(0, &nodes)
+        counted_model(named, 0, &nodes)
     }
 
     fn encode_node((index, schema_node): (usize, &SchemaNode)) -> Vec<u8> {
