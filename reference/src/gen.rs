@@ -3,6 +3,7 @@
 //! A case depends on the seed and its own index only.
 
 mod certificates;
+mod counts;
 mod damage;
 mod descriptions;
 mod faults;

@@ -29,7 +29,7 @@ pub enum Style {
 /// A packet name for a match call.
 pub fn match_name(random: &mut Random, model: &Model) -> Vec<u8> {
     let walker = Walker::new(model);
-    let components = walker.any_walk(random, &mut Bindings::default());
+    let components = walker.match_walk(random);
     let style = random.weighted(&[
         (570, Style::Exact),
         (190, Style::Near),
@@ -70,25 +70,25 @@ pub fn sign_names(random: &mut Random, model: &Model) -> (Vec<u8>, Vec<u8>) {
 pub struct Signing<'m> {
     walker: Walker<'m>,
     packet: Vec<Component<'m>>,
-    bindings: Bindings<'m>,
+    trail: Trail<'m>,
     signers: &'m [u64],
 }
 
 impl<'m> Signing<'m> {
     pub fn new(random: &mut Random, model: &'m Model<'m>) -> Self {
         let walker = Walker::new(model);
-        let mut bindings = Bindings::default();
-        let (packet, signers) = match walker.path_to_signed_node(random) {
+        let mut trail = Trail::new(random);
+        let (packet, signers) = match walker.path_to_signed_node(random, &trail) {
             Some(path) => {
                 let signers = &model.nodes[path[path.len() - 1]].signers[..];
-                (walker.walk_along(random, &path, &mut bindings), signers)
+                (walker.walk_along(random, &path, &mut trail), signers)
             }
-            None => (walker.any_walk(random, &mut bindings), &[][..]),
+            None => (walker.any_walk(random, &mut trail), &[][..]),
         };
         Signing {
             walker,
             packet,
-            bindings,
+            trail,
             signers,
         }
     }
@@ -109,20 +109,109 @@ impl<'m> Signing<'m> {
     /// The components of a key, mostly of one among the signers and under the
     /// packet's bindings.
     fn key_walk(&self, random: &mut Random) -> Vec<Component<'m>> {
-        let mut bindings = self.bindings.clone();
+        let mut trail = self.trail.clone();
         if self.signers.is_empty() {
-            return self.walker.any_walk(random, &mut bindings);
+            return self.walker.any_walk(random, &mut trail);
         }
-        if random.chance(12) {
-            bindings = Bindings::default();
+        if random.chance(6) {
+            trail.clear();
         }
+        trail.slip_percent = *random.pick(&[0, 0, 30]);
         let signer = *random.pick(self.signers) as usize;
         match self.walker.path_to(random, signer) {
-            Some(path) if random.chance(92) => self.walker.walk_along(random, &path, &mut bindings),
-            _ => self.walker.any_walk(random, &mut bindings),
+            Some(path) if random.chance(92) => self.walker.walk_along(random, &path, &mut trail),
+            _ => self.walker.any_walk(random, &mut trail),
         }
     }
 }
+
+/// What a walk has bound.
+#[derive(Clone)]
+struct Trail<'m> {
+    bindings: Bindings<'m>,
+    /// What it would have bound if temporary Tags were bound as well. Components
+    /// that only one of the two lets through are worth trying.
+    with_temporary: Bindings<'m>,
+    /// Whether components are chosen as if temporary Tags were bound.
+    is_as_if_bound: bool,
+    /// How often a Tag that is bound gets another component.
+    slip_percent: usize,
+}
+
+impl<'m> Trail<'m> {
+    fn new(random: &mut Random) -> Self {
+        Trail {
+            bindings: Bindings::default(),
+            with_temporary: Bindings::default(),
+            is_as_if_bound: random.chance(25),
+            slip_percent: 3,
+        }
+    }
+
+    /// The component that the Tag's edges ask for, if any.
+    fn bound(&self, tag: u64) -> Option<Component<'m>> {
+        if self.is_as_if_bound {
+            return self.with_temporary.get(tag);
+        }
+        self.bindings.get(tag)
+    }
+
+    fn bind(&mut self, model: &Model, edge: &PatternEdge, component: Component<'m>) {
+        let component = PlacedComponent {
+            component,
+            start: 0,
+            length: 0,
+        };
+        self.bindings.bind_crossed(model, edge, component);
+        self.with_temporary.bind_if_unbound(edge.tag, component);
+    }
+
+    /// Takes all bindings away.
+    fn clear(&mut self) {
+        self.bindings = Bindings::default();
+        if self.is_as_if_bound {
+            self.with_temporary = Bindings::default();
+        }
+    }
+
+    /// Whether a component is wanted for an edge.
+    fn fits(&self, edge: &PatternEdge, component: Component, aim: Aim) -> bool {
+        let crosses = may_cross(edge, component, &self.bindings);
+        let crosses_if_bound = may_cross(edge, component, &self.with_temporary);
+        match aim {
+            Aim::Crossing => crosses,
+            Aim::Repeated => crosses && self.with_temporary.get(edge.tag) == Some(component),
+            Aim::AsTemporaryOnly => crosses && !crosses_if_bound,
+            Aim::AsIfBound => crosses_if_bound,
+            Aim::AsIfBoundOnly => crosses_if_bound && !crosses,
+            Aim::Stopped => !crosses,
+        }
+    }
+}
+
+/// Which components are wanted for an edge.
+#[derive(Clone, Copy, Debug)]
+enum Aim {
+    Crossing,
+    /// The component that crossed an edge with the same Tag first.
+    Repeated,
+    /// Those that would be stopped if temporary Tags were bound.
+    AsTemporaryOnly,
+    /// Those that would cross if temporary Tags were bound.
+    AsIfBound,
+    /// Those of them that don't cross.
+    AsIfBoundOnly,
+    Stopped,
+}
+
+const AIMS: [(usize, Aim); 4] = [
+    (60, Aim::Crossing),
+    (10, Aim::Repeated),
+    (27, Aim::AsTemporaryOnly),
+    (3, Aim::Stopped),
+];
+
+const AIMS_AS_IF_BOUND: [(usize, Aim); 2] = [(40, Aim::AsIfBound), (60, Aim::AsIfBoundOnly)];
 
 /// Finds names by walking a model.
 struct Walker<'m> {
@@ -138,8 +227,59 @@ impl<'m> Walker<'m> {
         }
     }
 
+    /// The components of a packet that is to be matched. Where they are chosen as
+    /// if temporary Tags were bound, they lead to options that name one.
+    fn match_walk(&self, random: &mut Random) -> Vec<Component<'m>> {
+        let mut trail = Trail::new(random);
+        if trail.is_as_if_bound {
+            let nodes = 0..self.model.nodes.len();
+            let aimed: Vec<usize> = nodes
+                .filter(|&node| self.is_below_reference(node))
+                .collect();
+            if !aimed.is_empty() {
+                let target = *random.pick(&aimed);
+                if let Some(path) = self.path_to(random, target) {
+                    return self.walk_along(random, &path, &mut trail);
+                }
+            }
+        }
+        self.any_walk(random, &mut trail)
+    }
+
+    /// Whether an edge on the way to the node has an option that names a
+    /// temporary Tag.
+    fn is_below_reference(&self, node: usize) -> bool {
+        let mut below = node;
+        for _ in 0..MAX_COMPONENTS {
+            let Some(above) = self.crossed_parent(below) else {
+                return false;
+            };
+            let edges = self.model.nodes[above].pattern_edges.iter();
+            let mut crossed = edges.filter(|edge| edge.destination == below as u64);
+            if crossed.any(|edge| self.names_temporary(edge)) {
+                return true;
+            }
+            below = above;
+        }
+        false
+    }
+
+    /// Whether an option of the edge names a temporary Tag, itself or as its
+    /// argument.
+    fn names_temporary(&self, edge: &PatternEdge) -> bool {
+        let mut terms = edge.options().flat_map(|option| &option.terms);
+        terms.any(|term| match term {
+            Term::Value(_) => false,
+            Term::Tag(tag) => !self.model.is_named(*tag),
+            Term::Call(call) => match call.arguments.first() {
+                Some(Argument::Tag(tag)) => !self.model.is_named(*tag),
+                _ => false,
+            },
+        })
+    }
+
     /// Crosses edges at random and stops somewhere.
-    fn any_walk(&self, random: &mut Random, bindings: &mut Bindings<'m>) -> Vec<Component<'m>> {
+    fn any_walk(&self, random: &mut Random, trail: &mut Trail<'m>) -> Vec<Component<'m>> {
         let stop_percent = *random.pick(&[0, 5, 20, 40]);
         let mut node = self.model.start as usize;
         let mut components = Vec::new();
@@ -149,7 +289,7 @@ impl<'m> Walker<'m> {
                 break;
             }
             let next = *random.pick(&destinations) as usize;
-            components.push(self.component_between(random, node, next, bindings));
+            components.push(self.component_between(random, node, next, trail));
             node = next;
         }
         components
@@ -160,10 +300,10 @@ impl<'m> Walker<'m> {
         &self,
         random: &mut Random,
         path: &[usize],
-        bindings: &mut Bindings<'m>,
+        trail: &mut Trail<'m>,
     ) -> Vec<Component<'m>> {
         path.windows(2)
-            .map(|pair| self.component_between(random, pair[0], pair[1], bindings))
+            .map(|pair| self.component_between(random, pair[0], pair[1], trail))
             .collect()
     }
 
@@ -173,7 +313,7 @@ impl<'m> Walker<'m> {
         random: &mut Random,
         from: usize,
         to: usize,
-        bindings: &mut Bindings<'m>,
+        trail: &mut Trail<'m>,
     ) -> Component<'m> {
         let node = &self.model.nodes[from];
         let by_value = node
@@ -186,20 +326,25 @@ impl<'m> Walker<'m> {
             .iter()
             .filter(|edge| edge.destination == to as u64);
         let patterns: Vec<&PatternEdge> = by_pattern.collect();
+        let referring = patterns.iter().find(|edge| self.names_temporary(edge));
+        if let Some(edge) = referring.filter(|_| trail.is_as_if_bound) {
+            return self.cross(random, edge, trail);
+        }
         let choice = random.below(values.len() + patterns.len());
         if let Some(&value) = values.get(choice) {
             return value;
         }
-        let edge = patterns[choice - values.len()];
-        let component = self.component_for(random, edge, bindings);
-        bindings.bind_if_unbound(
-            edge.tag,
-            PlacedComponent {
-                component,
-                start: 0,
-                length: 0,
-            },
-        );
+        self.cross(random, patterns[choice - values.len()], trail)
+    }
+
+    fn cross(
+        &self,
+        random: &mut Random,
+        edge: &PatternEdge,
+        trail: &mut Trail<'m>,
+    ) -> Component<'m> {
+        let component = self.component_for(random, edge, trail);
+        trail.bind(self.model, edge, component);
         component
     }
 
@@ -207,27 +352,47 @@ impl<'m> Walker<'m> {
         &self,
         random: &mut Random,
         edge: &PatternEdge,
-        bindings: &Bindings<'m>,
+        trail: &Trail<'m>,
     ) -> Component<'m> {
-        if let Some(bound) = bindings.get(edge.tag) {
+        if let Some(bound) = trail.bound(edge.tag) {
+            if random.chance(trail.slip_percent) {
+                return *random.pick(&self.candidates);
+            }
             return bound;
         }
-        let bound = bindings.slots().iter().flatten().map(|slot| slot.component);
-        let fitting: Vec<Component> = bound
+        let slots = trail.with_temporary.slots().iter().flatten();
+        let known: Vec<Component> = slots
+            .map(|slot| slot.component)
             .chain(self.candidates.iter().copied())
-            .filter(|&component| may_cross(edge, component, bindings))
             .collect();
-        if fitting.is_empty() {
-            return *random.pick(&self.candidates);
+        let (aim, second_aim) = if trail.is_as_if_bound {
+            (random.weighted(&AIMS_AS_IF_BOUND), Aim::AsIfBound)
+        } else {
+            (random.weighted(&AIMS), Aim::Crossing)
+        };
+        for aim in [aim, second_aim] {
+            let all = known.iter().copied();
+            let fitting = all.filter(|&component| trail.fits(edge, component, aim));
+            let fitting: Vec<Component> = fitting.collect();
+            if !fitting.is_empty() {
+                return *random.pick(&fitting);
+            }
         }
-        *random.pick(&fitting)
+        *random.pick(&known)
     }
 
-    fn path_to_signed_node(&self, random: &mut Random) -> Option<Vec<usize>> {
+    fn path_to_signed_node(&self, random: &mut Random, trail: &Trail) -> Option<Vec<usize>> {
         let nodes = self.model.nodes.iter().enumerate();
         let signed = nodes.filter(|(_, node)| !node.signers.is_empty());
         let mut signed: Vec<usize> = signed.map(|(index, _)| index).collect();
         random.shuffle(&mut signed);
+        if trail.is_as_if_bound {
+            signed.sort_by_cached_key(|&index| {
+                let signers = self.model.nodes[index].signers.iter();
+                let mut both = signers.map(|&id| id as usize).chain([index]);
+                !both.any(|node| self.is_below_reference(node))
+            });
+        }
         signed
             .into_iter()
             .take(6)

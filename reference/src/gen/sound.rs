@@ -1,5 +1,6 @@
 //! Descriptions of models that are accepted.
 
+use super::counts::named_pattern_count;
 use super::plan::{
     ArgumentPlan, ConstraintPlan, NodePlan, OwnedComponent, PatternEdgePlan, Plan, SymbolPlan,
     TermPlan, ValueEdgePlan,
@@ -55,6 +56,10 @@ pub fn plan(random: &mut Random) -> Plan {
         Shape::Hierarchy => hierarchy(random),
         _ => graph(random, shape),
     };
+    // a hierarchy has temporary Tags of its own, behind the named ones
+    if !matches!(shape, Shape::Hierarchy) || random.chance(40) {
+        plan.named_pattern_count = named_pattern_count(random, &plan);
+    }
     if random.chance(25) {
         renumber(random, &mut plan);
     }
@@ -123,9 +128,9 @@ impl EdgeParameters {
 
 fn tags(random: &mut Random, is_dense: bool) -> Tags {
     let pool = if is_dense {
-        (1..=random.between(1, 3) as u64).collect()
+        (1..=random.between(1, 4) as u64).collect()
     } else {
-        match random.below(6) {
+        match random.weighted(&[(10, 0), (20, 1), (22, 2), (16, 3), (14, 4), (18, 5)]) {
             0 => vec![1],
             1 => vec![1, 2],
             2 => (1..=5).collect(),
@@ -175,8 +180,96 @@ fn graph(random: &mut Random, shape: Shape) -> Plan {
     if matches!(shape, Shape::Cyclic | Shape::Pair) || random.chance(5) {
         plan.start = random.below(plan.nodes.len()) as u64;
     }
+    if random.chance(70) {
+        refer_back(random, &mut plan);
+    }
+    if random.chance(35) {
+        add_reference(random, &mut plan, &parameters);
+    }
     add_signers(random, &mut plan);
     plan
+}
+
+/// Lets most options and arguments that name a Tag name one that is crossed on
+/// the way to their edge.
+fn refer_back(random: &mut Random, plan: &mut Plan) {
+    for index in 0..plan.nodes.len() {
+        let crossed = tags_above(plan, index);
+        if crossed.is_empty() {
+            continue;
+        }
+        let edges = plan.nodes[index].pattern_edges.iter_mut();
+        let options = edges.flat_map(|edge| &mut edge.constraints).flatten();
+        for tag in options.flatten().filter_map(tag_in_term) {
+            if random.chance(75) {
+                *tag = *random.pick(&crossed);
+            }
+        }
+    }
+}
+
+/// Adds a Constraint with an option that names a Tag crossed on the way, at
+/// times beside a Value.
+fn add_reference(random: &mut Random, plan: &mut Plan, parameters: &EdgeParameters) {
+    let indexes = (0..plan.nodes.len()).map(|index| (index, tags_above(plan, index)));
+    let referring: Vec<(usize, Vec<u64>)> = indexes
+        .filter(|(index, tags)| !tags.is_empty() && !plan.nodes[*index].pattern_edges.is_empty())
+        .collect();
+    if referring.is_empty() {
+        return;
+    }
+    let (index, tags) = random.pick(&referring);
+    let tag = *random.pick(tags);
+    let mut options = vec![vec![reference(random, tag)]];
+    if random.chance(40) {
+        let value = TermPlan::Value(parameters.component(random));
+        options.insert(random.below(2), vec![value]);
+    }
+    let edges = &mut plan.nodes[*index].pattern_edges;
+    let edge = random.below(edges.len());
+    edges[edge].constraints.push(options);
+}
+
+/// An option that names this Tag.
+fn reference(random: &mut Random, tag: u64) -> TermPlan {
+    let function = match random.below(4) {
+        0 | 1 => return TermPlan::Tag(tag),
+        2 => "$eq",
+        _ => "$eq_type",
+    };
+    TermPlan::Call {
+        function: function.into(),
+        arguments: vec![ArgumentPlan::Tag(tag)],
+    }
+}
+
+/// The Tag that an option names, itself or as its argument.
+fn tag_in_term(term: &mut TermPlan) -> Option<&mut u64> {
+    match term {
+        TermPlan::Value(_) => None,
+        TermPlan::Tag(tag) => Some(tag),
+        TermPlan::Call { arguments, .. } => match arguments.first_mut()? {
+            ArgumentPlan::Value(_) => None,
+            ArgumentPlan::Tag(tag) => Some(tag),
+        },
+    }
+}
+
+/// The Tags of the edges that lead to a node from the few above it.
+fn tags_above(plan: &Plan, index: usize) -> Vec<u64> {
+    let mut tags = Vec::new();
+    let mut node = index;
+    for _ in 0..4 {
+        let Some(parent) = plan.nodes[node].parent else {
+            break;
+        };
+        let parent = parent as usize;
+        let edges = plan.nodes[parent].pattern_edges.iter();
+        let crossed = edges.filter(|edge| edge.destination == node as u64);
+        tags.extend(crossed.map(|edge| edge.tag));
+        node = parent;
+    }
+    tags
 }
 
 /// Each node's parent; an edge may only lead from a node's parent to it.
@@ -329,21 +422,52 @@ enum Step {
     },
 }
 
-/// The Tags that a schema's rules share, and those that they don't.
+/// Which temporary patterns of a schema have the same Tag.
+#[derive(Clone, Copy, Debug)]
+enum Numbering {
+    /// None.
+    Each,
+    /// Those in the same place of different rules.
+    Places,
+    /// All.
+    One,
+}
+
+/// The Tags of a schema's patterns.
 struct SchemaTags {
     id: u64,
     other_id: u64,
     year: u64,
-    next: u64,
-    repeats_temporary: bool,
+    /// How many are named, from 1.
+    named: u64,
+    /// How many temporary patterns there are.
+    temporary: u64,
+    numbering: Numbering,
 }
 
 impl SchemaTags {
-    fn temporary(&mut self) -> u64 {
-        if !self.repeats_temporary {
-            self.next += 1;
+    /// The Tag of the next temporary pattern, which stands in this place of its rule.
+    fn temporary(&mut self, place: usize) -> u64 {
+        self.temporary += 1;
+        self.named
+            + match self.numbering {
+                Numbering::Each => self.temporary,
+                Numbering::Places => 1 + place as u64,
+                Numbering::One => 1,
+            }
+    }
+
+    /// The Tag of any pattern so far, more often of a temporary one.
+    fn any(&self, random: &mut Random) -> u64 {
+        if self.temporary == 0 || random.chance(40) {
+            return random.between(1, self.named as usize) as u64;
         }
-        self.next
+        let temporary = match self.numbering {
+            Numbering::Each => self.temporary,
+            Numbering::Places => 4,
+            Numbering::One => 1,
+        };
+        self.named + random.between(1, temporary as usize) as u64
     }
 }
 
@@ -354,10 +478,15 @@ fn hierarchy(random: &mut Random) -> Plan {
         id: 1,
         other_id: 2,
         year: 3,
-        next: 4,
-        repeats_temporary: random.chance(15),
+        named: 3,
+        temporary: 0,
+        numbering: random.weighted(&[
+            (30, Numbering::Each),
+            (45, Numbering::Places),
+            (25, Numbering::One),
+        ]),
     };
-    plan.named_pattern_count = 3;
+    plan.named_pattern_count = tags.named;
     let mut prefix = root;
     for word in ["ndn", "blog"].into_iter().take(random.between(1, 2)) {
         prefix = follow(
@@ -401,20 +530,37 @@ fn role_steps(random: &mut Random, tags: &mut SchemaTags, role: &str, length: us
             options.push(vec![TermPlan::Value(OwnedComponent::generic("author"))]);
         }
         Step::Pattern {
-            tag: tags.temporary(),
+            tag: tags.temporary(0),
             constraints: vec![options],
         }
     }];
     let id = *random.pick(&[tags.id, tags.id, tags.other_id]);
     steps.push(checked_pattern(random, id, "$isValidID"));
     steps.push(Step::Value(OwnedComponent::generic("KEY")));
-    for _ in 0..length {
-        steps.push(Step::Pattern {
-            tag: tags.temporary(),
-            constraints: Vec::new(),
-        });
+    for place in 1..=length {
+        let tag = tags.temporary(place);
+        let constraints = if random.chance(15) {
+            vec![key_constraint(random, tags)]
+        } else {
+            Vec::new()
+        };
+        steps.push(Step::Pattern { tag, constraints });
     }
     steps
+}
+
+/// A Constraint for a part of a key, of one to three options.
+fn key_constraint(random: &mut Random, tags: &SchemaTags) -> ConstraintPlan {
+    let count = random.weighted(&[(30, 1), (50, 2), (20, 3)]);
+    (0..count).map(|_| vec![key_term(random, tags)]).collect()
+}
+
+fn key_term(random: &mut Random, tags: &SchemaTags) -> TermPlan {
+    let tag = tags.any(random);
+    if random.chance(35) {
+        return TermPlan::Value(OwnedComponent::generic(*random.pick(&["a", "b"])));
+    }
+    reference(random, tag)
 }
 
 fn article_steps(random: &mut Random, tags: &SchemaTags) -> Vec<Step> {
@@ -501,9 +647,6 @@ fn renumber(random: &mut Random, plan: &mut Plan) {
 /// Adds what doesn't change a walk.
 fn add_extras(random: &mut Random, plan: &mut Plan) {
     plan.has_wide_integers = random.chance(25);
-    if random.chance(30) {
-        plan.named_pattern_count = *random.pick(&[0, 1, 128, 129, 65_536, u64::MAX]);
-    }
     if random.chance(25) {
         for node in &mut plan.nodes {
             let count = random.below(3);

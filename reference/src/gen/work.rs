@@ -1,8 +1,9 @@
 //! How much a walk may have to look at, so that no case takes long.
 //!
 //! Counts every path that equal ValueEdges and any PatternEdges allow; a walk
-//! looks at no more. Faulty names and models are counted as if they were sound,
-//! so that a checker that refuses too little comes to an end as well.
+//! looks at no more, whatever its Tags and Constraints shut. Faulty names and
+//! models are counted as if they were sound, so that a checker that refuses too
+//! little comes to an end as well.
 
 use super::models::Sample;
 use crate::elements::{append_element, kind};
