@@ -1,4 +1,4 @@
--- Temporary Tags, those above the count of named ones (docs/format.md, 7.2): never bound, so that they are never compared, and no option or
+-- Temporary Tags, those above the count of named ones (docs/format.md, 7.1): never bound, so that they are never compared, and no option or
 -- argument that names one holds. Assumes nothing.
 use Prim.Native.Nat.{ℕ, zero, suc, _+_, _*_, _≤_, _<_}
 use mathlib.Core.Path.{_≡_, refl, sym, _∙_, subst}
