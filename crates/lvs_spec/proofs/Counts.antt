@@ -1,24 +1,24 @@
 -- Counts of 128 and more make every Tag named, so they are alike. Assumes nothing.
 use Prim.Native.Nat.{ℕ, zero, suc, _≤_}
-use mathlib.Core.Path.{_≡_, refl, sym, ap, _∙_, subst, fun-ext}
+use mathlib.Core.Path.{_≡_, refl, sym, ap, _∙_, subst}
 use mathlib.Core.Bool.{Bool, true, false, cond, _&&_, not}
-use mathlib.Core.List.{List, [], _∷_, _++_, List·Memᴰ, List·Memᴰ·head, List·Memᴰ·tail}
+use mathlib.Core.List.{List, [], _∷_}
 use mathlib.Core.Option.{Option, none, some}
 use native.Mathlib.Omega.{arith}
 use borrow.Author.Tests.{ltb-true, ltb-false, lt-ltb}
 use lib.Dec.{ltb}
 use lib.ListN.{length, length-replicate, getD}
 use lib.Seq.{set-out}
-use Rattle.tlv.specs.Lists.{onward, each, guard, isSome}
+use Rattle.tlv.specs.Lists.{onward, guard, isSome}
 use Rattle.lvs_spec.specs.Limits.{maxTag}
 use Rattle.lvs_spec.specs.Model.{Model, Edge, edges, nodeAt}
 use Rattle.lvs_spec.specs.Names.{Component}
-use Rattle.lvs_spec.specs.Walk.{Binding, packetRow, keyRow, Bindings, Match, Pair, Event, continue, looked, found, answers, begin, noBindings, bindTag}
-use Rattle.lvs_spec.specs.Walk.{crosses, bindingsAfter, cross, trace, packetTrace, packetMatches, keyTrace, lists, signed, signTrace, pairTrace}
+use Rattle.lvs_spec.specs.Walk.{Binding, packetRow, keyRow, Bindings, Match, Event, looked, begin, noBindings, bindTag}
+use Rattle.lvs_spec.specs.Walk.{crosses, bindingsAfter, cross, trace, packetTrace, keyTrace, lists}
 use Rattle.lvs_spec.specs.Demands.{counted}
 use Rattle.lvs_spec.proofs.Trace.{each-same}
 use Rattle.lvs_spec.proofs.Bindings.{cross-changed, length-changed, packet-bindings}
-use Rattle.lvs_spec.proofs.Same.{SameTraces, through}
+use Rattle.lvs_spec.proofs.Same.{SameTraces, same-traces, through}
 
 cond-same : {A : Type 0} (t : Bool) (a : A) → cond t a a ≡ a
 cond-same true a = refl
@@ -41,14 +41,6 @@ after-large : {count : ℕ} → maxTag ≤ count → (s : Bindings) (b : Binding
 unfolding bindingsAfter
 after-large l s b (Edge.value e) n = refl
 after-large l s b (Edge.pattern e) n = ap (guard (crosses s (b .component .content) e)) (bind-large l s (e .tag) b n)
-
--- the continuations of a trace have to be the same only where it has found something
-each-found : {A B : Type 0} {f g : A → List (Event B)} (t : List (Event A)) → ((a : A) → List·Memᴰ a (answers t) → f a ≡ g a)
-    → each (continue f) t ≡ each (continue g) t
-each-found [] h = refl
-each-found (looked ∷ t) h = ap (λ l. looked ∷ l) (each-found t h)
-each-found {f = f} {g = g} (found a ∷ t) h =
-    ap (λ l. l ++ each (continue f) t) (h a (List·Memᴰ·head refl)) ∙ ap (λ l. g a ++ l) (each-found t (λ x i. h x (List·Memᴰ·tail i)))
 
 module _ (m : Model) (l : maxTag ≤ m .patternCount) where
   abbrev all-named : Model
@@ -74,24 +66,16 @@ module _ (m : Model) (l : maxTag ≤ m .patternCount) where
   unfolding packetTrace begin counted noBindings
   packet-large cs = trace-large (packetRow cs) (begin m noBindings) (length-replicate {A = Option Binding} maxTag none)
 
-  signed-large : (x y : Match) → signed all-named x y ≡ signed m x y
-  unfolding signed lists counted nodeAt
-  signed-large x y = refl
+  key-large : (key : List Component) (x : Match) → length (x .bindings) ≡ maxTag → keyTrace all-named key x ≡ keyTrace m key x
+  unfolding keyTrace begin counted
+  key-large key x n = trace-large (keyRow key) (begin m (x .bindings)) n
 
-  sign-large : (key : List Component) (x : Match) → length (x .bindings) ≡ maxTag → signTrace all-named key x ≡ signTrace m key x
-  unfolding signTrace keyTrace begin counted
-  sign-large key x n =
-      ap (λ t. each (continue (signed all-named x)) t) (trace-large (keyRow key) (begin m (x .bindings)) n) ∙
-      ap (λ (f : Match → List (Event Pair)). each (continue f) (keyTrace m key x)) (fun-ext (signed-large x))
-
-  pair-large : (packet key : List Component) → pairTrace all-named packet key ≡ pairTrace m packet key
-  unfolding pairTrace packetMatches
-  pair-large packet key =
-      ap (λ t. each (continue (signTrace all-named key)) t) (packet-large packet) ∙
-      each-found (packetTrace m packet) (λ x i. sign-large key x (packet-bindings m packet i))
+  lists-large : (v k : ℕ) → lists all-named v k ≡ lists m v k
+  unfolding lists counted nodeAt
+  lists-large v k = refl
 
   large-same : SameTraces all-named m
-  large-same = record { packet = packet-large; pair = pair-large }
+  large-same = same-traces packet-large (λ ps ks x i. key-large ks x (packet-bindings m ps i)) lists-large
 
 -- two models that differ only in such counts have the same traces
 pub same-counts : {m n : Model} → maxTag ≤ m .patternCount → maxTag ≤ n .patternCount → counted maxTag m ≡ counted maxTag n → SameTraces m n

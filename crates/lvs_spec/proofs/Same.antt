@@ -2,17 +2,18 @@
 use Prim.Native.Nat.{ℕ}
 use mathlib.Core.Path.{_≡_, refl, sym, ap, _∙_, fun-ext}
 use mathlib.Core.Bool.{Bool, true, false}
-use mathlib.Core.List.{List}
+use mathlib.Core.List.{List, [], _∷_, _++_, List·Memᴰ, List·Memᴰ·head, List·Memᴰ·tail}
 use mathlib.Core.Option.{none, some}
 use lib.Dec.{ltb}
 use lib.ListN.{length}
 use Rattle.tlv.specs.Element.{elementBytes}
-use Rattle.tlv.specs.Lists.{firstIndex}
+use Rattle.tlv.specs.Lists.{each, firstIndex}
 use Rattle.lvs_spec.specs.Limits.{bindingWords}
 use Rattle.lvs_spec.specs.Model.{Model, modelOf}
 use Rattle.lvs_spec.specs.Verdict.{Verdict, verdict}
 use Rattle.lvs_spec.specs.Names.{Component, NameReading, badName, goodName, packetName, keyName}
-use Rattle.lvs_spec.specs.Walk.{packetTrace, pairTrace}
+use Rattle.lvs_spec.specs.Walk.{Match, Event, looked, found, continue, answers, packetTrace, packetMatches, keyTrace, lists}
+use Rattle.lvs_spec.specs.Walk.{signed, signTrace, pairTrace}
 use Rattle.lvs_spec.specs.Answers.{usable, usableModel, matchRoom, matchName, matchIn, matchOutcome, signNames, signIn, signAnswer}
 use Rattle.lvs_spec.specs.Certificates.{Entry, entries, ListReading, manyEntries, unfitEntry, fitEntries, listReading, allows, suggested}
 use Rattle.lvs_spec.specs.Certificates.{suggestFrom, suggestName, suggestIn, suggestAnswer}
@@ -22,6 +23,30 @@ use Rattle.lvs_spec.proofs.Usable.{accepted-usable}
 pub record SameTraces (m n : Model) : Type 0 where
   pub packet : (cs : List Component) → packetTrace m cs ≡ packetTrace n cs
   pub pair : (ps ks : List Component) → pairTrace m ps ks ≡ pairTrace n ps ks
+
+-- the continuations of a trace have to be the same only where it has found something
+each-found : {A B : Type 0} {f g : A → List (Event B)} (t : List (Event A)) → ((a : A) → List·Memᴰ a (answers t) → f a ≡ g a)
+    → each (continue f) t ≡ each (continue g) t
+each-found [] h = refl
+each-found (looked ∷ t) h = ap (λ l. looked ∷ l) (each-found t h)
+each-found {f = f} {g = g} (found a ∷ t) h =
+    ap (λ l. l ++ each (continue f) t) (h a (List·Memᴰ·head refl)) ∙ ap (λ l. g a ++ l) (each-found t (λ x i. h x (List·Memᴰ·tail i)))
+
+-- it is enough that packet names are walked alike, and key names after each packet match, and that the same signers are listed
+pub same-traces : {m n : Model} → ((cs : List Component) → packetTrace m cs ≡ packetTrace n cs)
+    → ((ps ks : List Component) (x : Match) → List·Memᴰ x (packetMatches n ps) → keyTrace m ks x ≡ keyTrace n ks x)
+    → ((v k : ℕ) → lists m v k ≡ lists n v k) → SameTraces m n
+unfolding pairTrace packetMatches signTrace signed
+same-traces {m} {n} packet key listed =
+    record {
+      packet = packet;
+      pair = λ ps ks.
+          ap (λ t. each (continue (signTrace m ks)) t) (packet ps) ∙ each-found (packetTrace n ps) (λ x i. sign ks x (key ps ks x i));
+    }
+  where
+    sign : (ks : List Component) (x : Match) → keyTrace m ks x ≡ keyTrace n ks x → signTrace m ks x ≡ signTrace n ks x
+    sign ks x e =
+        ap (λ t. each (continue (signed m x)) t) e ∙ each-found (keyTrace n ks x) (λ y _. rw (listed (x .node) (y .node)))
 
 -- two models that are each like the same third
 pub through : {m n o : Model} → SameTraces o m → SameTraces o n → SameTraces m n
