@@ -16,11 +16,11 @@ use Rattle.lvs_spec.specs.Demands.{OnlyNamed}
 use Rattle.lvs_spec.proofs.Lists.{bind-from}
 use Rattle.lvs_spec.proofs.Temporary.{named-after, temporary-crosses, temporary-stays}
 use Rattle.lvs_spec.proofs.Bindings.{bound-stays}
-use Rattle.lvs_bindings.specs.Slots.{Room, SlotOf, textFrom, bindingAt, bindingsOf, boundWords, boundTag, without}
+use Rattle.lvs_bindings.specs.Slots.{SlotOf, textFrom, bindingAt, bindingsOf, boundWords, boundTag, without}
 use Rattle.lvs_bindings.specs.declared.Slot.{Slot}
 use Rattle.lvs_bindings.proofs.Slots.{to-end, unbound, is-bound, bound-most, bound-long, bound-bindings, bound-back}
 use Rattle.lvs_edges.specs.Edges.{edgeOf}
-use Rattle.lvs_edges.specs.Crossing.{Stands, FieldsOf, leadsTo, openIf, Crossed, CrossedValue}
+use Rattle.lvs_edges.specs.Crossing.{Ready, FieldsOf, leadsTo, openIf, Crossed, CrossedValue}
 use Rattle.lvs_edges.specs.declared.PatternFields.{PatternFields}
 use Rattle.lvs_edges.specs.declared.Crossing.{Crossing}
 use Rattle.lvs_edges.specs.declared.Crossing.the-variants.{Shut, Open}
@@ -50,21 +50,21 @@ module _ (s c : List ℕ) {v : List ℕ} (v-is : v ≡ theInside type.Value s) {
   value-open f d = record { leads = λ count β b e. value-leads count β b e ∙ rw (f, ← d); binds-none = refl }
 
 -- under the bindings as they stand, with the component at its place
-pub value-crossed : {count : ℕ} {packet key s c slots : List ℕ} {at : ℕ} {r : Crossing} → Room slots → Stands packet key at c → CrossedValue s c r
+pub value-crossed : {count : ℕ} {packet key s c slots : List ℕ} {at : ℕ} {r : Crossing} → Ready count packet key at c slots → CrossedValue s c r
     → Crossed count packet key (edgeOf false s) (bindingAt packet key at (length c)) slots r slots
 unfolding bindingAt without
-value-crossed {count} {packet} {key} {c = c} {slots = slots} {at = at} room stands value =
+value-crossed {count} {packet} {key} {c = c} {slots = slots} {at = at} ready value =
     record {
-      leads = value .leads count (bindingsOf packet key slots) (bindingAt packet key at (length c)) (stands .content);
+      leads = value .leads count (bindingsOf packet key slots) (bindingAt packet key at (length c)) (ready .stands .content);
       back = rw (value .binds-none);
       low = rw (value .binds-none) (omega arith);
-      room = room;
+      room = ready .room;
     }
 
 -- ---- a PatternEdge
 
-module _ {count : ℕ} {packet key s c slots : List ℕ} {at : ℕ} {f : PatternFields} (room : Room slots)
-    (named : OnlyNamed count (bindingsOf packet key slots)) (stands : Stands packet key at c) (F : FieldsOf s f) where
+module _ {count : ℕ} {packet key s c slots : List ℕ} {at : ℕ} {f : PatternFields}
+    (ready : Ready count packet key at c slots) (F : FieldsOf s f) where
   abbrev β : Bindings
   β = bindingsOf packet key slots
 
@@ -82,11 +82,11 @@ module _ {count : ℕ} {packet key s c slots : List ℕ} {at : ℕ} {f : Pattern
   pattern-leads : {t : Bool} → crosses β (componentOf c) (patternEdgeOf s) ≡ t
       → leadsTo count β b (edgeOf true s) ≡ cond t (some (record { node = f .dest; bindings = bindTag count β (f .tag) b })) none
   unfolding leadsTo edgeOf bindingsAfter patternEdgeOf destination bindingAt
-  pattern-leads {t} e = rw (stands .content, e, F .destination, F .tag-is) (led t (theInteger type.NodeId s) _)
+  pattern-leads {t} e = rw (ready .stands .content, e, F .destination, F .tag-is) (led t (theInteger type.NodeId s) _)
 
   pattern-shut : crosses β (componentOf c) (patternEdgeOf s) ≡ false → Answer Shut slots
   unfolding without
-  pattern-shut e = record { leads = pattern-leads e; back = refl; low = omega arith; room = room }
+  pattern-shut e = record { leads = pattern-leads e; back = refl; low = omega arith; room = ready .room }
 
   -- its Tag is not bound anew
   pattern-kept : {t : Bool} → crosses β (componentOf c) (patternEdgeOf s) ≡ t → bindTag count β (f .tag) b ≡ β
@@ -95,7 +95,7 @@ module _ {count : ℕ} {packet key s c slots : List ℕ} {at : ℕ} {f : Pattern
   pattern-kept {t} e same-bindings {r} r-is = rw r-is (go t e)
     where
       go : (t : Bool) → crosses β (componentOf c) (patternEdgeOf s) ≡ t → Answer (openIf t (f .dest)) slots
-      go true e = record { leads = pattern-leads e ∙ rw same-bindings; back = refl; low = omega arith; room = room }
+      go true e = record { leads = pattern-leads e ∙ rw same-bindings; back = refl; low = omega arith; room = ready .room }
       go false e = pattern-shut e
 
   module _ {held : Bool} (held-is : held ≡ all (constraintHolds β (componentOf c)) (patternEdgeOf part .constraints)) where
@@ -108,7 +108,7 @@ module _ {count : ℕ} {packet key s c slots : List ℕ} {at : ℕ} {f : Pattern
     module _ (temporary : count < f .tag) where
       crosses-temporary : crosses β (componentOf c) (patternEdgeOf s) ≡ held
       unfolding patternEdgeOf
-      crosses-temporary = temporary-crosses named (componentOf c) (patternEdgeOf s) (rw (← F .tag-is) temporary) ∙ all-held
+      crosses-temporary = temporary-crosses (ready .only-named) (componentOf c) (patternEdgeOf s) (rw (← F .tag-is) temporary) ∙ all-held
 
       pub temporary-crossed : {r : Crossing} → r ≡ openIf held (f .dest) → Answer r slots
       temporary-crossed r-is = pattern-kept crosses-temporary (temporary-stays count β (f .tag) b temporary) r-is
@@ -118,7 +118,7 @@ module _ {count : ℕ} {packet key s c slots : List ℕ} {at : ℕ} {f : Pattern
       -- the Tag is unbound
       module _ (free : w .size ≡ 0) where
         not-bound : bound β (f .tag) ≡ none
-        not-bound = unbound room packet key S free
+        not-bound = unbound (ready .room) packet key S free
 
         crosses-free : crosses β (componentOf c) (patternEdgeOf s) ≡ held
         unfolding crosses patternEdgeOf
@@ -130,21 +130,21 @@ module _ {count : ℕ} {packet key s c slots : List ℕ} {at : ℕ} {f : Pattern
         pub free-open : held ≡ true → f .tag ≤ count → {tag : ℕ} {after : List ℕ}
             → (tag ≡ boundTag (f .tag)) × (after ≡ boundWords (f .tag) at (length c) slots) → Answer (Open (f .dest) tag) after
         free-open e low {tag} {after} (tag-is, after-is) =
-            let bytes : length c ≡ 0 → ⊥ = λ z. omega (arith, stands .some) in
+            let bytes : length c ≡ 0 → ⊥ = λ z. omega (arith, ready .stands .some) in
             let now : bindingsOf packet key after ≡ bindTag count β (f .tag) b =
-            ap (bindingsOf packet key) after-is ∙ bound-bindings room packet key count (f .tag) at (length c) low not-bound bytes in
+            ap (bindingsOf packet key) after-is ∙ bound-bindings (ready .room) packet key count (f .tag) at (length c) low not-bound bytes in
             record {
               leads = rw now (pattern-leads (crosses-free ∙ e));
-              back = rw (now, tag-is) (bound-back room packet key count (f .tag) at (length c) low not-bound bytes);
+              back = rw (now, tag-is) (bound-back (ready .room) packet key count (f .tag) at (length c) low not-bound bytes);
               low = rw tag-is (bound-most (f .tag));
-              room = record { is = rw after-is (bound-long slots (f .tag) at (length c)) ∙ room .is };
+              room = record { is = rw after-is (bound-long slots (f .tag) at (length c)) ∙ ready .room .is };
             }
 
       -- the Tag is bound, and t says whether to an equal component
       module _ (taken : w .size ≡ 0 → ⊥) {text : List ℕ} {t : Bool} (text-is : text ≡ textFrom packet key (w .start))
           (h : t ≡ same (componentOf text) (componentOf c)) where
         now-bound : bound β (f .tag) ≡ some (bindingAt packet key (w .start) (w .size))
-        now-bound = is-bound room packet key S taken
+        now-bound = is-bound (ready .room) packet key S taken
 
         crosses-bound : {x : Bool} → t ≡ x → crosses β (componentOf c) (patternEdgeOf s) ≡ cond x held false
         unfolding crosses patternEdgeOf boundTo bindingAt

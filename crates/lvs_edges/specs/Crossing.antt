@@ -11,6 +11,7 @@ use Rattle.lvs_spec.specs.Limits.{maxTag}
 use Rattle.lvs_spec.specs.Types as type
 use Rattle.lvs_spec.specs.Model.{Edge, componentOf, destination}
 use Rattle.lvs_spec.specs.Walk.{Binding, Bindings, Match, bindingsAfter}
+use Rattle.lvs_spec.specs.Demands.{OnlyNamed}
 use Rattle.lvs_names.specs.Contents.{Alone}
 use Rattle.lvs_bindings.specs.Slots.{Room, textFrom, bindingsOf, without}
 use Rattle.lvs_edges.specs.Edges.{edgeOf}
@@ -25,6 +26,12 @@ pub record Stands (packet key : List ℕ) (at : ℕ) (c : List ℕ) : Type 0 whe
   pub low : at < 65536
   pub short : length c < 65536
   pub some : 0 < length c
+
+-- where an edge is to be crossed: the words of all Tags, of which only named ones are bound, and the component
+pub record Ready (count : ℕ) (packet key : List ℕ) (at : ℕ) (c slots : List ℕ) : Type 0 where
+  pub room : Room slots
+  pub only-named : OnlyNamed count (bindingsOf packet key slots)
+  pub stands : Stands packet key at c
 
 -- an edge that begins with a NodeId of one byte
 pub record PlainNode (s : List ℕ) : Type 0 where

@@ -10,10 +10,9 @@ ghost use lib.ListN.{length};
 ghost use Rattle.tlv.specs.Fields.{theInside, theInteger};
 ghost use Rattle.lvs_spec.specs.Types as type;
 ghost use Rattle.lvs_names.specs.Contents.{Alone};
-ghost use Rattle.lvs_spec.specs.Demands.{OnlyNamed};
-ghost use Rattle.lvs_bindings.specs.Slots.{Room, bindingAt, bindingsOf};
+ghost use Rattle.lvs_bindings.specs.Slots.{bindingAt};
 ghost use Rattle.lvs_edges.specs.Edges.{edgeOf, EdgeFrom};
-ghost use Rattle.lvs_edges.specs.Crossing.{Stands, PlainNode, PlainValue, PlainPattern, FieldsOf, openIf, Crossed, CrossedValue};
+ghost use Rattle.lvs_edges.specs.Crossing.{Ready, PlainNode, PlainValue, PlainPattern, FieldsOf, openIf, Crossed, CrossedValue};
 use lvs_bindings::SLOT_WORDS;
 use lvs_spec::types::NODE_ID;
 use lvs_spec::types::PATTERN_EDGE;
@@ -84,9 +83,7 @@ pub fn cross<'a>(
     c: &[u8],
     slots: &mut [u32; SLOT_WORDS],
 ) -> Crossing
-    requires { ⌜ Room (now slots) ⌝ }
-    requires { ⌜ OnlyNamed named (bindingsOf (now packet) (now key) (now slots)) ⌝ }
-    requires { ⌜ Stands (now packet) (now key) at (now c) ⌝ }
+    requires { ⌜ Ready named (now packet) (now key) at (now c) (now slots) ⌝ }
     ensures { λ r. ⌜ Crossed named (now (packet .entry)) (now (key .entry)) (edgeOf pattern (now (s .entry)))
         (bindingAt (now (packet .entry)) (now (key .entry)) at (length (now (c .entry)))) (now (slots .entry)) r (now (slots .exit)) ⌝ }
 {
@@ -118,9 +115,7 @@ fn cross_pattern<'a>(
     c: &[u8],
     slots: &mut [u32; SLOT_WORDS],
 ) -> Crossing
-    requires { ⌜ Room (now slots) ⌝ }
-    requires { ⌜ OnlyNamed named (bindingsOf (now packet) (now key) (now slots)) ⌝ }
-    requires { ⌜ Stands (now packet) (now key) at (now c) ⌝ }
+    requires { ⌜ Ready named (now packet) (now key) at (now c) (now slots) ⌝ }
     ensures { λ r. ⌜ Crossed named (now (packet .entry)) (now (key .entry)) (edgeOf true (now (s .entry)))
         (bindingAt (now (packet .entry)) (now (key .entry)) at (length (now (c .entry)))) (now (slots .entry)) r (now (slots .exit)) ⌝ }
 {

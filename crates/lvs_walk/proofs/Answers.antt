@@ -1,35 +1,44 @@
 -- The first hit is the first match, or the first pair. Assumes nothing.
-use Prim.Native.Nat.{ℕ}
+use Prim.Native.Nat.{ℕ, _≤_}
 use mathlib.Core.Path.{_≡_, refl, sym, ap, _∙_}
 use mathlib.Core.Bool.{Bool, true, false}
 use mathlib.Core.List.{List, [], _∷_, _++_, map}
 use mathlib.Core.Option.{Option, none, some, Option·some-injective}
+use lib.ListN.{length}
 use Rattle.tlv.specs.Lists.{each, when, first}
-use Rattle.lvs_spec.specs.Model.{Model}
+use Rattle.lvs_spec.specs.Limits.{maxNameBytes}
+use Rattle.lvs_spec.specs.Model.{Model, modelOf}
 use Rattle.lvs_spec.specs.Names.{Component}
 use Rattle.lvs_spec.specs.Walk.{Match, Pair, Event, looked, found, continue, answers, noBindings, begin, packetTrace, packetMatches}
 use Rattle.lvs_spec.specs.Walk.{keyTrace, lists, signed, signTrace, pairTrace, pairs}
 use Rattle.lvs_spec.specs.Answers.{SignAnswer, pairFound}
-use Rattle.lvs_spec.specs.Demands.{OnlyNamed}
 use Rattle.lvs_spec.proofs.Lists.{clash}
 use Rattle.lvs_spec.proofs.Temporary.{none-named}
 use Rattle.lvs_names.specs.Rows.{rowFrom}
-use Rattle.lvs_bindings.specs.Slots.{Room, binding, bindingsOf}
-use Rattle.lvs_walk.specs.Search.{Hit, listed, worth, hits, firstFound, rowFor, hitOf, First}
+use Rattle.lvs_bindings.specs.Slots.{binding, bindingsOf}
+use Rattle.lvs_edges.specs.Nodes.{NodesAt}
+use Rattle.lvs_walk.specs.Search.{Hit, listed, worth, hits, firstFound, rowFor, Within, hitOf, First}
 use Rattle.lvs_walk.specs.Calls.{clear, matchOf, FirstMatch, signFound, FirstPair}
 use Rattle.lvs_walk.specs.declared.Goal.the-variants.{Match as AnyMatch, Packet}
 use Rattle.lvs_walk.specs.declared.Found.{Found}
 use Rattle.lvs_walk.specs.declared.Found.the-variants.{Nothing, At}
 
-pub none-bound : (packet key : List ℕ) {slots : List ℕ} → slots ≡ clear → bindingsOf packet key slots ≡ noBindings
+none-bound : (packet key : List ℕ) {slots : List ℕ} → slots ≡ clear → bindingsOf packet key slots ≡ noBindings
 unfolding bindingsOf binding noBindings
 none-bound packet key e = rw e
 
-pub clear-room : {slots : List ℕ} → slots ≡ clear → Room slots
-clear-room e = record { is = rw e }
-
-pub clear-named : (count : ℕ) (packet key : List ℕ) {slots : List ℕ} → slots ≡ clear → OnlyNamed count (bindingsOf packet key slots)
-clear-named count packet key e = rw (none-bound packet key e) (none-named count)
+-- a walk may begin there
+pub clear-within : {model places : List ℕ} {named : ℕ} {packet key slots : List ℕ} → NodesAt model places → named ≡ modelOf model .patternCount
+    → length packet ≤ maxNameBytes → length key ≤ maxNameBytes → slots ≡ clear → Within model places named packet key slots
+clear-within {named = named} {packet = packet} {key = key} nodes count packet-short key-short e =
+    record {
+      nodes = nodes;
+      count = count;
+      packet-short = packet-short;
+      key-short = key-short;
+      room = record { is = rw e };
+      only-named = rw (none-bound packet key e) (none-named named);
+    }
 
 -- ---- a trace that says the same in another way
 

@@ -27,7 +27,7 @@ ghost use Rattle.lvs_walk.specs.Calls.{clear, FirstMatch, FirstPair};
 // match for the packet's node.
 pub enum Goal {
     Match,
-    Packet { start: u64, key_from: usize },
+    Packet { start: u64, from: usize },
     Key(u64),
 }
 
@@ -43,10 +43,7 @@ fn name_for<'a>(packet: &'a [u8], key: &'a [u8], goal: Goal) -> &'a [u8]
 {
     match goal {
         Goal::Match => packet,
-        Goal::Packet {
-            start: _,
-            key_from: _,
-        } => packet,
+        Goal::Packet { start: _, from: _ } => packet,
         Goal::Key(_) => key,
     }
 }
@@ -58,10 +55,7 @@ fn text_place(packet: &[u8], goal: Goal, at: usize) -> usize
 {
     match goal {
         Goal::Match => at,
-        Goal::Packet {
-            start: _,
-            key_from: _,
-        } => at,
+        Goal::Packet { start: _, from: _ } => at,
         Goal::Key(_) => packet.len() + at,
     }
 }
@@ -101,19 +95,9 @@ fn walk<'a>(
     let ComponentRead::Component(end) = lvs_names::component_at(name, at) else {
         return match goal {
             Goal::Match => Found::At(node, node),
-            Goal::Packet { start, key_from } => {
+            Goal::Packet { start, from } => {
                 let then = Goal::Key(node);
-                walk(
-                    model,
-                    places,
-                    named,
-                    packet,
-                    key,
-                    then,
-                    start,
-                    key_from,
-                    slots,
-                )
+                walk(model, places, named, packet, key, then, start, from, slots)
             }
             Goal::Key(p) => if_listed(model, places, p, node),
         };
@@ -184,7 +168,10 @@ pub fn find_pair<'a>(
 {
     let start = tlv::number_in(model, NODE_ID);
     let named = tlv::number_in(model, NAMED_PATTERN_CNT);
-    let goal = Goal::Packet { start, key_from };
+    let goal = Goal::Packet {
+        start,
+        from: key_from,
+    };
     let mut slots = [0u32; SLOT_WORDS];
     walk(
         model,

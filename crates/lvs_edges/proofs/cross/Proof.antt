@@ -5,7 +5,7 @@ use Rattle.lvs_edges.proofs.cross.Statement.{statement}
 use Rattle.lvs_edges.proofs.cross.Tie as tie
 
 cross-value-requires : tie.Need-cross-value-requires
-cross-value-requires c κs = c .before .before .before .before .before .pre .1 .1 .alone
+cross-value-requires c κs = c .before .before .before .before .before .pre .stands .alone
 
 returns : tie.Need-returns
 returns c = rw (c .before .before .if1 .taken) (c .cross-pattern .ensures)
@@ -13,7 +13,7 @@ returns c = rw (c .before .before .if1 .taken) (c .cross-pattern .ensures)
 returns-2 : tie.Need-returns-2
 returns-2 c =
     let p = c .before .before .before .before .before .before .pre in
-    rw (c .before .if1 .left) (value-crossed (p .0) (p .1 .1) (c .cross-value .ensures))
+    rw (c .before .if1 .left) (value-crossed p (c .cross-value .ensures))
 
 pub cross-spec : {M : Type 1} → statement M
 cross-spec = tie.close

@@ -17,23 +17,20 @@ fields s = s .before .before .before
 returns : tie.Need-returns
 returns c =
     let f = c .before .before .before .before .before in
-    let p = start f .pre in
-    temporary-crossed (p .0) (p .1 .0) (p .1 .1) (f .pattern-fields .ensures) (c .before .constraints-hold .ensures)
+    temporary-crossed (start f .pre) (f .pattern-fields .ensures) (c .before .constraints-hold .ensures)
     (c .before .before .before .before .if1 .taken) (c .open-if .ensures)
 
 -- it is named and unbound
 returns-2 : tie.Need-returns-2
 returns-2 c =
     let s = c .before .before .before .before .before .before in
-    let p = start (fields s) .pre in
-    free-shut (p .0) (p .1 .0) (p .1 .1) (fields s .pattern-fields .ensures) (c .before .constraints-hold2 .ensures) (s .slot-of .ensures)
+    free-shut (start (fields s) .pre) (fields s .pattern-fields .ensures) (c .before .constraints-hold2 .ensures) (s .slot-of .ensures)
     (c .before .before .before .before .if2 .taken) (not-true _ (c .if3 .taken))
 
 returns-3 : tie.Need-returns-3
 returns-3 c =
     let s = c .before .before .before .before .before .before .before .before in
-    let p = start (fields s) .pre in
-    free-open (p .0) (p .1 .0) (p .1 .1) (fields s .pattern-fields .ensures) (c .before .before .before .constraints-hold2 .ensures) (s .slot-of .ensures)
+    free-open (start (fields s) .pre) (fields s .pattern-fields .ensures) (c .before .before .before .constraints-hold2 .ensures) (s .slot-of .ensures)
     (c .before .before .before .before .before .before .if2 .taken) (not-false _ (c .before .before .if3 .left)) (s .before .before .if1 .left)
     (c .bind-tag .ensures)
 
@@ -41,16 +38,14 @@ returns-3 c =
 returns-4 : tie.Need-returns-4
 returns-4 c =
     let s = c .before .before .before .before .before .before in
-    let p = start (fields s) .pre in
-    bound-other (p .0) (p .1 .0) (p .1 .1) (fields s .pattern-fields .ensures) refl (s .slot-of .ensures) (c .before .before .before .before .if2 .left)
+    bound-other (start (fields s) .pre) (fields s .pattern-fields .ensures) refl (s .slot-of .ensures) (c .before .before .before .before .if2 .left)
     (c .before .before .text-from .ensures) (c .before .begins-with .ensures) (not-true _ (c .if4 .taken))
 
 returns-5 : tie.Need-returns-5
 returns-5 c =
     let compared = c .before .before .before .before in
     let s = compared .before .before .before .before .before .before in
-    let p = start (fields s) .pre in
-    bound-same (p .0) (p .1 .0) (p .1 .1) (fields s .pattern-fields .ensures) (c .before .constraints-hold3 .ensures) (s .slot-of .ensures)
+    bound-same (start (fields s) .pre) (fields s .pattern-fields .ensures) (c .before .constraints-hold3 .ensures) (s .slot-of .ensures)
     (compared .before .before .before .before .if2 .left) (compared .before .before .text-from .ensures) (compared .before .begins-with .ensures)
     (not-false _ (compared .if4 .left)) (c .open-if2 .ensures)
 

@@ -233,7 +233,7 @@ part-cross-end t c =
 cross-requires : (t : ℕ) → at walk-lts.Need-cross-requires t
 cross-requires t c κs =
     let l = c .before .before .before .before .before .before in
-    (l .loop .inv .room, (turn-named (l .loop .inv), here t (node t l .before) .stands))
+    record { room = l .loop .inv .room; only-named = turn-named (l .loop .inv); stands = here t (node t l .before) .stands }
 
 -- the edge is shut
 loop-less-2 : (t : ℕ) → at walk-lts.Need-loop-less-2 t

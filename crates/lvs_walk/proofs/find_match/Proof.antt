@@ -2,7 +2,7 @@
 use native.Mathlib.Omega.{arith}
 use borrow.Author.Needs.{needs}
 use Rattle.lvs_spec.specs.Model.{modelOf}
-use Rattle.lvs_walk.proofs.Answers.{clear-room, clear-named, match-first}
+use Rattle.lvs_walk.proofs.Answers.{clear-within, match-first}
 use Rattle.lvs_walk.proofs.find_match.Statement.{statement}
 use Rattle.lvs_walk.proofs.find_match.Tie as tie
 
@@ -14,17 +14,8 @@ walk-requires : tie.Need-walk-requires
 unfolding modelOf
 walk-requires c κs =
     let n = c .before .before in
-    let s = began n in (
-      record {
-        nodes = s .pre .0;
-        count = n .number-in2 .ensures;
-        packet-short = s .pre .1 .0;
-        key-short = omega arith;
-        room = clear-room (s .pre .1 .1);
-        only-named = clear-named _ _ _ (s .pre .1 .1);
-      },
-      tt,
-    )
+    let s = began n in
+    (clear-within (s .pre .0) (n .number-in2 .ensures) (s .pre .1 .0) (omega arith) (s .pre .1 .1), tt)
 
 returns : tie.Need-returns
 unfolding modelOf

@@ -2,7 +2,7 @@
 use mathlib.Core.Path.{refl}
 use borrow.Author.Needs.{needs}
 use Rattle.lvs_spec.specs.Model.{modelOf}
-use Rattle.lvs_walk.proofs.Answers.{clear-room, clear-named, pair-first}
+use Rattle.lvs_walk.proofs.Answers.{clear-within, pair-first}
 use Rattle.lvs_walk.proofs.find_pair.Statement.{statement}
 use Rattle.lvs_walk.proofs.find_pair.Tie as tie
 
@@ -14,17 +14,8 @@ walk-requires : tie.Need-walk-requires
 unfolding modelOf
 walk-requires c κs =
     let n = c .before in
-    let s = began n in (
-      record {
-        nodes = s .pre .0;
-        count = n .number-in2 .ensures;
-        packet-short = s .pre .1 .0;
-        key-short = s .pre .1 .1;
-        room = clear-room refl;
-        only-named = clear-named _ _ _ refl;
-      },
-      n .before .number-in .ensures,
-    )
+    let s = began n in
+    (clear-within (s .pre .0) (n .number-in2 .ensures) (s .pre .1 .0) (s .pre .1 .1) refl, n .before .number-in .ensures)
 
 returns : tie.Need-returns
 unfolding modelOf
