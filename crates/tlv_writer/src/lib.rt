@@ -19,7 +19,7 @@ pub fn number_size(n: u64) -> usize
     1 + tlv::width_of(mark_of(n))
 }
 
-// A type or a length in its shortest form. Answers the place behind it.
+// A type or a length in its shortest form. Answers the place behind it. A layer below: whoever writes an element has tested its room.
 pub fn put_number(out: &mut [u8], at: usize, n: u64) -> usize
     requires { ⌜ at + length (numberBytes n) ≤ length (now out) ⌝ }
     ensures { λ r.
@@ -53,7 +53,7 @@ fn mark_of(n: u64) -> u8
     255
 }
 
-// The `w` bytes that spell n, high byte first; `w` is 1, 2, 4 or 8.
+// The `w` bytes that spell n, high byte first; `w` is 1, 2, 4 or 8. A layer below: room and width are the caller's, as above.
 pub fn put_digits(out: &mut [u8], at: usize, w: usize, n: u64)
     requires { ⌜ Digits at w n (length (now out)) ⌝ }
     ensures { λ _. ⌜ Stored (now (out .entry)) (now (out .exit)) at (bigEndianBytes w n) ⌝ }
@@ -105,7 +105,7 @@ fn put_u64(out: &mut [u8], at: usize, n: u64)
     put_u32(out, at + 4, n % 4294967296);
 }
 
-// The bytes of `src`.
+// The bytes of `src`. A layer below, as the others.
 pub fn put_bytes(out: &mut [u8], at: usize, src: &[u8])
     requires { ⌜ at + length (now src) ≤ length (now out) ⌝ }
     ensures { λ _. ⌜ Stored (now (out .entry)) (now (out .exit)) at (now (src .entry)) ⌝ }
