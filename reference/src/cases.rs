@@ -7,7 +7,10 @@ use std::borrow::Cow;
 use std::fmt::Display;
 use std::io::{self, Read, Write};
 
-use crate::{describe, find_certificate, match_name, sign, verdict, write_model};
+use crate::names::{single_component, OwnedComponent};
+use crate::{
+    compare_components, describe, find_certificate, match_name, sign, verdict, write_model,
+};
 
 /// The longest model, name and binding buffer in a case.
 pub const MAX_MODEL_FIELD: usize = 65_536;
@@ -19,6 +22,8 @@ pub const MAX_TEXTS_FIELD: usize = 65_536;
 pub const MAX_OUTPUT_FIELD: usize = 65_536;
 /// The longest list of certificates in a case.
 pub const MAX_LIST_FIELD: usize = 65_536;
+/// The longest component in a case, type and length included.
+pub const MAX_COMPONENT_FIELD: usize = 65_536;
 
 /// The inputs of one call.
 #[derive(Clone, Debug, PartialEq, Eq)]
@@ -50,6 +55,10 @@ pub enum Case {
         model: Vec<u8>,
         packet: Vec<u8>,
         list: Vec<u8>,
+    },
+    Compare {
+        first: OwnedComponent,
+        second: OwnedComponent,
     },
 }
 
@@ -96,6 +105,9 @@ impl Case {
                 packet,
                 list,
             } => (b'C', vec![model.into(), packet.into(), list.into()]),
+            Case::Compare { first, second } => {
+                (b'E', vec![first.encode().into(), second.encode().into()])
+            }
         }
     }
 
@@ -132,6 +144,10 @@ impl Case {
                 model: read_field(input, MAX_MODEL_FIELD)?,
                 packet: read_field(input, MAX_NAME_FIELD)?,
                 list: read_field(input, MAX_LIST_FIELD)?,
+            },
+            b'E' => Case::Compare {
+                first: read_component(input)?,
+                second: read_component(input)?,
             },
             _ => return Err(Broken),
         };
@@ -177,6 +193,10 @@ impl Case {
                 packet,
                 list,
             } => writeln!(out, "{}", find_certificate(&model, &packet, &list)),
+            Case::Compare { first, second } => {
+                let answer = compare_components(first.as_component(), second.as_component());
+                writeln!(out, "{answer}")
+            }
         }
     }
 }
@@ -238,6 +258,13 @@ fn read_field(input: &mut impl Read, limit: usize) -> Result<Vec<u8>, Broken> {
     Ok(bytes)
 }
 
+/// Reads a field that is one component.
+fn read_component(input: &mut impl Read) -> Result<OwnedComponent, Broken> {
+    let bytes = read_field(input, MAX_COMPONENT_FIELD)?;
+    let component = single_component(&bytes).map_err(|_| Broken)?;
+    Ok(component.into())
+}
+
 /// Reads a field of items that take N bytes each.
 fn read_list<T, const N: usize>(
     input: &mut impl Read,
@@ -294,6 +321,10 @@ mod tests {
                 model: vec![4],
                 packet: vec![],
                 list: vec![7, 0, 7],
+            },
+            Case::Compare {
+                first: OwnedComponent::generic("a"),
+                second: OwnedComponent::new(65_535, [0; 253]),
             },
         ];
         let mut bytes = Vec::new();
@@ -380,6 +411,60 @@ mod tests {
         assert_eq!(find(&[]), "none\n");
         assert_eq!(find(&[7, 2, 8, 0, 7, 0]), "certificate 1\n");
         assert_eq!(find(&[7, 0, 7]), "refused 32 1\n");
+    }
+
+    /// A case that compares these two fields, read.
+    fn read_comparison(first: &[u8], second: &[u8]) -> Result<Case, Broken> {
+        let mut bytes = vec![b'E'];
+        write_field(&mut bytes, first).unwrap();
+        write_field(&mut bytes, second).unwrap();
+        read_all(&bytes).map(|mut cases| cases.remove(0))
+    }
+
+    #[test]
+    fn lines_of_comparisons() {
+        let compared = |first: &[u8], second: &[u8]| read_comparison(first, second).map(line);
+        let answer = |text: &str| Ok(format!("{text}\n"));
+        assert_eq!(compared(&[8, 0], &[8, 0]), answer("equal 0"));
+        assert_eq!(compared(&[8, 1, 97], &[8, 1, 97]), answer("equal 1"));
+        assert_eq!(compared(&[8, 1, 97], &[8, 0]), answer("different 0"));
+        assert_eq!(
+            compared(&[8, 2, 97, 98], &[8, 2, 98, 98]),
+            answer("different 2")
+        );
+        assert_eq!(
+            compared(&[253, 1, 8, 1, 97], &[8, 1, 97]),
+            answer("different 0")
+        );
+    }
+
+    #[test]
+    fn what_is_compared_is_one_component_each() {
+        let good = &[8, 1, 97][..];
+        let longest = [&[8, 253, 255, 252][..], &[0; 65_532]].concat();
+        assert!(read_comparison(&longest, &longest).is_ok());
+        assert!(read_comparison(&[253, 255, 255, 0], &[1, 0]).is_ok());
+        let too_long = [&[8, 253, 255, 253][..], &[0; 65_533]].concat();
+        let broken: [&[u8]; 11] = [
+            &[],
+            &[8],
+            &[8, 1],
+            &[8, 0, 0],
+            &[8, 0, 8, 0],
+            &[0, 0],
+            &[253, 0, 8, 0],
+            &[8, 253, 0, 1, 97],
+            &[254, 0, 1, 0, 0, 0],
+            &[8, 255, 0, 0, 0, 1, 0, 0, 0, 0],
+            &too_long,
+        ];
+        for field in broken {
+            assert_eq!(read_comparison(field, good), Err(Broken), "{field:?}");
+            assert_eq!(read_comparison(good, field), Err(Broken), "{field:?}");
+        }
+        assert_eq!(read_all(b"E"), Err(Broken));
+        assert_eq!(read_all(b"E\0\0\0\x02\x08\0"), Err(Broken));
+        assert_eq!(read_all(b"E\0\0\0\x02\x08\0\0\0\0\x02\x08"), Err(Broken));
     }
 
     #[test]

@@ -8,6 +8,7 @@
 //! - [`walk`]: the depth-first walk
 //! - [`answers`]: the calls that match, sign, write and describe
 //! - [`certificates`]: the call that finds a certificate in a list
+//! - [`comparison`]: the call that compares two components
 //! - [`encode`]: the bytes of a model
 //! - [`description`]: a model as two plain lists
 //! - [`gaps`](mod@gaps): taking optional elements out and putting elements in
@@ -17,6 +18,7 @@
 pub mod answers;
 pub mod cases;
 pub mod certificates;
+pub mod comparison;
 pub mod description;
 pub mod elements;
 pub mod encode;
@@ -31,5 +33,6 @@ pub use answers::{
     describe, match_name, sign, write_model, DescribeAnswer, MatchAnswer, SignAnswer, WriteAnswer,
 };
 pub use certificates::{find_certificate, CertificateAnswer};
+pub use comparison::{compare_components, Comparison};
 pub use gaps::{bare, gaps, insert_element, Gap};
 pub use verdict::{verdict, Reason, Refusal, Verdict};

@@ -1,6 +1,6 @@
 //! Names and their components.
 
-use crate::elements::{kind, Element, Elements, Malformed};
+use crate::elements::{append_element, kind, Element, Elements, Malformed};
 use crate::verdict::{Reason, Refusal};
 
 /// The longest name, in bytes of the whole element.
@@ -25,6 +25,47 @@ impl<'a> TryFrom<Element<'a>> for Component<'a> {
             kind: kind.into(),
             value: element.value,
         })
+    }
+}
+
+/// A component that has its bytes itself.
+#[derive(Clone, Debug, PartialEq, Eq)]
+pub struct OwnedComponent {
+    pub kind: u64,
+    pub value: Vec<u8>,
+}
+
+impl OwnedComponent {
+    pub fn new(kind: u64, value: impl Into<Vec<u8>>) -> Self {
+        OwnedComponent {
+            kind,
+            value: value.into(),
+        }
+    }
+
+    /// A generic component.
+    pub fn generic(value: impl Into<Vec<u8>>) -> Self {
+        OwnedComponent::new(8, value)
+    }
+
+    pub fn as_component(&self) -> Component<'_> {
+        Component {
+            kind: self.kind,
+            value: &self.value,
+        }
+    }
+
+    /// The bytes of its element.
+    pub fn encode(&self) -> Vec<u8> {
+        let mut bytes = Vec::new();
+        append_element(&mut bytes, self.kind, &self.value);
+        bytes
+    }
+}
+
+impl From<Component<'_>> for OwnedComponent {
+    fn from(component: Component<'_>) -> Self {
+        OwnedComponent::new(component.kind, component.value)
     }
 }
 

@@ -33,7 +33,7 @@ fn cases_fit_their_form() {
                 model.len() <= MAX_MODEL_FIELD && name_fits(&name) && words.len() <= MAX_WORDS,
             Case::Sign { model, packet, key } =>
                 model.len() <= MAX_MODEL_FIELD && name_fits(&packet) && name_fits(&key),
-            Case::Write { .. } | Case::Describe { .. } | Case::Certificate { .. } => false,
+            _ => false,
         });
     }
 }
@@ -47,6 +47,7 @@ fn answer_kind(case: Case) -> String {
         Case::Write { .. } => 'W',
         Case::Describe { .. } => 'D',
         Case::Certificate { .. } => 'C',
+        Case::Compare { .. } => 'E',
     };
     let mut line = Vec::new();
     case.answer(&mut line).unwrap();

@@ -102,7 +102,7 @@ fn model_of(case: &Case) -> Option<&[u8]> {
         | Case::Sign { model, .. }
         | Case::Describe { model, .. }
         | Case::Certificate { model, .. } => Some(model),
-        Case::Write { .. } => None,
+        Case::Write { .. } | Case::Compare { .. } => None,
     }
 }
 
@@ -114,7 +114,7 @@ fn with_model(case: &Case, other: Vec<u8>) -> Case {
         | Case::Sign { model, .. }
         | Case::Describe { model, .. }
         | Case::Certificate { model, .. } => *model = other,
-        Case::Write { .. } => {}
+        Case::Write { .. } | Case::Compare { .. } => {}
     }
     changed
 }

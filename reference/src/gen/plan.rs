@@ -4,7 +4,8 @@ use super::random::Random;
 use super::tree::Tree;
 use crate::elements::kind;
 use crate::model::SUPPORTED_VERSION;
-use crate::names::Component;
+
+pub use crate::names::OwnedComponent;
 
 #[derive(Clone, Debug)]
 pub struct Plan {
@@ -63,32 +64,6 @@ pub enum ArgumentPlan {
 pub struct SymbolPlan {
     pub tag: u64,
     pub identifier: Vec<u8>,
-}
-
-#[derive(Clone, Debug, PartialEq, Eq)]
-pub struct OwnedComponent {
-    pub kind: u64,
-    pub value: Vec<u8>,
-}
-
-impl OwnedComponent {
-    pub fn new(kind: u64, value: impl Into<Vec<u8>>) -> Self {
-        OwnedComponent {
-            kind,
-            value: value.into(),
-        }
-    }
-
-    /// A generic component.
-    pub fn generic(value: impl Into<Vec<u8>>) -> Self {
-        OwnedComponent::new(8, value)
-    }
-}
-
-impl From<Component<'_>> for OwnedComponent {
-    fn from(component: Component<'_>) -> Self {
-        OwnedComponent::new(component.kind, component.value)
-    }
 }
 
 impl Plan {
