@@ -3,6 +3,7 @@
 //! A case depends on the seed and its own index only.
 
 mod certificates;
+mod components;
 mod counts;
 mod damage;
 mod descriptions;
@@ -19,6 +20,7 @@ mod tree;
 mod work;
 
 pub use certificates::certificate_case;
+pub use components::component_case;
 pub use damage::{critical_kind, optional_kind};
 pub use descriptions::description_case;
 pub use models::{sample, sound_model, Sample};
