@@ -4,17 +4,19 @@
 usage: compare.py [CASES [SEED]]
        compare.py --descriptions [CASES [SEED]]
        compare.py --certificates [CASES [SEED]]
+       compare.py --components [CASES [SEED]]
 
 CASES cases (default 100,000) in batches of 20,000, one seed each, beginning with SEED (default 1). In each batch
 - lvs_cases must print the reference's line for every case;
 - lvs_cases must print the reference's line for half as many cases of gen_descriptions, which write (W) and describe (D) models,
-  and for a quarter as many of gen_certificates, which look for a certificate in a list (C);
+  for a quarter as many of gen_certificates, which look for a certificate in a list (C), and of gen_components, which compare two
+  components (E);
 - lvs_check must print the reference's lines for the first signing cases, given the model as its file;
 - the cases of gap_cases (optional and critical elements in gaps, other versions) must get their lines.
 With --descriptions only cases of gen_descriptions are compared, CASES of them in batches of 10,000, one seed each; with --certificates
-only those of gen_certificates, in batches of 5,000.
+only those of gen_certificates, and with --components only those of gen_components, in batches of 5,000.
 A difference is printed with its program, seed and index, and e.g. `gen_cases SEED 1 INDEX` writes that case alone.
-The last lines say how often each answer came up, with the letter W, D or C before those of gen_descriptions and gen_certificates.
+The last lines say how often each answer came up, with the letter W, D, C or E before those that are not of gen_cases.
 """
 import collections
 import itertools
@@ -30,10 +32,10 @@ OURS = ROOT / "target/bin"
 REFERENCE = ROOT / "reference/target/release"
 BATCH = 20_000
 # what follows the cases of gen_cases in a batch: the program gen_NAME and how many of its cases; --NAME compares them alone
-MORE = {"descriptions": BATCH // 2, "certificates": BATCH // 4}
+MORE = {"descriptions": BATCH // 2, "certificates": BATCH // 4, "components": BATCH // 4}
 RUNS = 100  # of lvs_check, in a batch
 LIMIT = 2048  # lvs_check's, for the length of a name
-FIELDS = {b"V": 1, b"M": 3, b"S": 3, b"W": 3, b"D": 3, b"C": 3}
+FIELDS = {b"V": 1, b"M": 3, b"S": 3, b"W": 3, b"D": 3, b"C": 3, b"E": 2}
 
 
 def build_reference():
