@@ -154,6 +154,11 @@ def suggest(of, packet, *entries):
     return b"C" + field(of) + field(packet) + field(b"".join(entries))
 
 
+def compare(a, b):
+    """Two components, as their bytes."""
+    return b"E" + field(a) + field(b)
+
+
 def number_field(numbers):
     return field(b"".join(n.to_bytes(8, "big") for n in numbers))
 
