@@ -94,8 +94,8 @@ def driver_runs(program):
     driver = importlib.import_module("driver")
     for what, given, expected in driver.runs():
         yield what, run(program, given, CASES), expected
-    given = driver.GOOD + driver.WORDS + driver.WRITE + driver.DESCRIBE + driver.SUGGEST
-    expected = driver.LINE + driver.WORDS_LINE + driver.WRITE_LINE + driver.DESCRIBE_LINE + driver.SUGGEST_LINE
+    given = driver.GOOD + driver.WORDS + driver.WRITE + driver.DESCRIBE + driver.SUGGEST + driver.COMPARE
+    expected = driver.LINE + driver.WORDS_LINE + driver.WRITE_LINE + driver.DESCRIBE_LINE + driver.SUGGEST_LINE + driver.COMPARE_LINE
     yield "in pieces", run_in_pieces(program, given, CASES), expected
 
 

@@ -1,6 +1,7 @@
 """Inputs of lvs_cases as wholes: where a case is broken, and many cases in one run."""
 from bench import A, B, SLASH_A, SLASH_B
 from build import *
+from components import changed, some
 
 GOOD = verdict(B)
 LINE = "accepted 2\n"
@@ -13,15 +14,63 @@ SUGGEST = suggest(B, SLASH_A, SLASH_B, SLASH_A)
 WRITE_LINE = f"written {len(B)} {B.hex()}\n"
 DESCRIBE_LINE = f"described {len(B_NUMBERS)} 0" + words_line(B_NUMBERS) + " 00ff\n"
 SUGGEST_LINE = "certificate 1\n"
+DAY, NEXT_DAY = component("20261116"), component("20261117")
+COMPARE = compare(DAY, NEXT_DAY)
+COMPARE_LINE = "different 1\n"
+LONGEST = component(some(65532))  # 65,536 bytes: a header of 4 and the value
+
+# fields that are not exactly one component
+NO_COMPONENTS = {
+    "no bytes": b"",
+    "a type alone": b"\x08",
+    "a type of 3 bytes, cut": b"\xfd\x01",
+    "a type of 3 bytes alone": b"\xfd\x01\x08",
+    "a length of 3 bytes, cut": b"\x08\xfd\x01",
+    "a header alone": b"\x08\x01",
+    "one byte missing": DAY[:-1],
+    "one byte too many": DAY + b"7",
+    "a byte 0 too many": DAY + b"\x00",
+    "two components": DAY + DAY,
+    "a component and an empty one": DAY + b"\x08\x00",
+    "an empty component and another": b"\x08\x00" + DAY,
+    "type 0": element(0, b"a"),
+    "type 0, empty": b"\x00\x00",
+    "type 0 in 3 bytes": b"\xfd\x00\x00\x01a",
+    "type 65,536": element(65536, b"a"),
+    "type 65,544, which ends in 8": element(65544, b"a"),
+    "type 2^32 - 1": element(2**32 - 1, b"a"),
+    "type 2^32": element(2**32, b"a"),
+    "type 2^32 + 8": element(2**32 + 8, b"a"),
+    "type 8 in 3 bytes": b"\xfd\x00\x08\x01a",
+    "type 8 in 5 bytes": b"\xfe\x00\x00\x00\x08\x01a",
+    "type 8 in 9 bytes": b"\xff" + bytes(7) + b"\x08\x01a",
+    "type 252 in 3 bytes": b"\xfd\x00\xfc\x01a",
+    "type 253 in 5 bytes": b"\xfe\x00\x00\x00\xfd\x01a",
+    "type 65,535 in 5 bytes": b"\xfe\x00\x00\xff\xff\x01a",
+    "a length of 0 in 3 bytes": b"\x08\xfd\x00\x00",
+    "a length of 1 in 3 bytes": b"\x08\xfd\x00\x01a",
+    "a length of 1 in 5 bytes": b"\x08\xfe\x00\x00\x00\x01a",
+    "a length of 1 in 9 bytes": b"\x08\xff" + bytes(7) + b"\x01a",
+    "a length of 252 in 3 bytes": b"\x08\xfd\x00\xfc" + bytes(252),
+    "a length of 253 in 5 bytes": b"\x08\xfe\x00\x00\x00\xfd" + bytes(253),
+    "a length of 65,535 and no more": b"\x08\xfd\xff\xff",
+    "a length of 65,536 in 65,536 bytes": b"\x08\xfe\x00\x01\x00\x00" + bytes(65530),
+    "a length of 2^32 + 1": b"\x08\xff\x00\x00\x00\x01\x00\x00\x00\x01a",
+    "a length of 2^64 - 1": b"\x08" + b"\xff" * 9,
+    "a length of 2^64 - 10, so that the end would be the start": b"\x08" + b"\xff" * 8 + b"\xf6",
+    "65,536 bytes, one missing": component(bytes(65533))[:-1],
+    "65,536 bytes, one too many": component(bytes(65531)) + b"\x00",
+    "65,536 bytes of type 0": bytes(65536),
+}
 
 
 def runs():
     yield "no case", b"", ""
-    for of in (GOOD, WORDS, sign(B, SLASH_A, SLASH_A), WRITE, DESCRIBE, SUGGEST):
+    for of in (GOOD, WORDS, sign(B, SLASH_A, SLASH_A), WRITE, DESCRIBE, SUGGEST, COMPARE):
         for size in range(1, len(of), max(1, len(of) // 40)):
             yield f"{of[:1]} cut after {size} bytes", GOOD + of[:size], LINE + "broken\n"
         yield f"{of[:1]} without its last byte", GOOD + of[:-1], LINE + "broken\n"
-    for letter in (b"X", b"v", b"w", b"d", b"c", b"\x00", b"\n"):
+    for letter in (b"X", b"v", b"w", b"d", b"c", b"e", b"\x00", b"\n"):
         yield f"letter {letter}", GOOD + letter + GOOD[1:] + GOOD, LINE + "broken\n"
     longest = bytes(65536)
     yield "a model of 65,536 bytes", verdict(longest) + GOOD, "refused 1 0\n" + LINE
@@ -72,3 +121,82 @@ def runs():
         yield what, of + GOOD, "broken\n"
     # what an earlier case left behind in the driver is no part of a list
     yield "a short list after a long one", suggest(B, SLASH_A, *[SLASH_A] * 64) + suggest(B, SLASH_A, SLASH_B), "certificate 0\nnone\n"
+    for part in component_fields, long_components, many_comparisons:
+        yield from part()
+
+
+def component_fields():
+    """Fields of `E` that are good, too long, or no component, each behind a good case."""
+    yield "two cases", COMPARE + COMPARE + GOOD, COMPARE_LINE * 2 + LINE
+    yield "equal components", compare(DAY, DAY) + GOOD, "equal 8\n" + LINE
+    yield "empty components", compare(component(""), component("")) + GOOD, "equal 0\n" + LINE
+    yield "a small letter", COMPARE + b"e" + COMPARE[1:] + COMPARE, COMPARE_LINE + "broken\n"
+    for what, bad in NO_COMPONENTS.items():
+        assert len(bad) <= 65536
+        for where, of in ("first", compare(bad, DAY)), ("second", compare(DAY, bad)), ("both", compare(bad, bad)):
+            yield f"{what}, {where}", COMPARE + of + GOOD, COMPARE_LINE + "broken\n"
+    too_long = component(bytes(65533))
+    assert len(too_long) == 65537
+    for what, of in (
+        ("65,537 bytes, first", compare(too_long, DAY)),
+        ("65,537 bytes, second", compare(DAY, too_long)),
+        ("65,537 bytes, both", compare(too_long, too_long)),
+        ("2^32 - 1 bytes, first", b"E" + b"\xff" * 4),
+        ("2^32 - 1 bytes, second", b"E" + field(DAY) + b"\xff" * 4),
+        ("2^31 bytes", b"E\x80\x00\x00\x00"),
+        ("one field only", b"E" + field(DAY)),  # the next case's letter is in the length of the second
+        ("a third field", field(DAY)),  # no letter stands there
+    ):
+        yield what, COMPARE + of + GOOD, COMPARE_LINE + "broken\n"
+
+
+def long_components():
+    """65,536 bytes a field, in every form, and short ones behind them: what a case has left behind is no part of the next."""
+    value = some(65532)
+    for what, a, b, line in (
+        ("equal", LONGEST, LONGEST, "equal 65532"),
+        *((f"place {i}", LONGEST, component(changed(value, i)), f"different {65532 - i}") for i in (0, 1, 32764, 65276, 65530, 65531)),
+        ("all places but the last", LONGEST, component(changed(value, *range(65531))), "different 2"),
+        ("a byte less in front", LONGEST, component(value[1:]), "different 0"),
+        ("a byte less behind", LONGEST, component(value[:-1]), "different 0"),
+        ("256 bytes less", LONGEST, component(value[:-256]), "different 0"),
+        ("nothing but zeros", component(bytes(65531)), component(bytes(65532)), "different 0"),
+        ("no bytes", LONGEST, component(""), "different 0"),
+        ("type 9", LONGEST, component(value, 9), "different 0"),
+        ("a type of 3 bytes", component(value[2:], 65535), component(value[2:], 65535), "equal 65530"),
+        ("a type of 3 bytes, another first byte", component(value[2:], 253), component(changed(value[2:], 0), 253), "different 65530"),
+        ("a type of 3 bytes and one of 1", component(value[2:], 264), LONGEST, "different 0"),
+    ):
+        short = compare(component("b"), component("c")) + compare(component(""), component("")) + compare(DAY, DAY)
+        yield f"{what}, 65,536 bytes", compare(a, b) + short + GOOD, f"{line}\ndifferent 1\nequal 0\nequal 8\n" + LINE
+        yield f"{what}, 65,536 bytes, exchanged", compare(b, a) + short + GOOD, f"{line}\ndifferent 1\nequal 0\nequal 8\n" + LINE
+    long = compare(LONGEST, LONGEST)
+    for what, of in (
+        ("no bytes", compare(DAY, b"")),
+        ("the beginning of the long one", compare(LONGEST[:100], DAY)),
+        ("the beginning of the long one, second", compare(DAY, LONGEST[:100])),
+        ("one byte missing", compare(DAY, DAY[:-1])),
+    ):
+        yield f"behind 65,536 bytes: {what}", long + of + GOOD, "equal 65532\nbroken\n"
+
+
+def many_comparisons():
+    yield "20,000 comparisons", COMPARE * 20000, COMPARE_LINE * 20000
+    yield "200 comparisons of 1,018 bytes", compare(component(some(1018)), component(some(1018))) * 200, "equal 1018\n" * 200
+    yield "20 comparisons of 65,532 bytes", compare(LONGEST, LONGEST) * 20, "equal 65532\n" * 20
+    others = (
+        (GOOD, LINE),
+        (WORDS, WORDS_LINE),
+        (sign(B, SLASH_A, SLASH_A), "allowed 1 1\n"),
+        (WRITE, WRITE_LINE),
+        (DESCRIBE, DESCRIBE_LINE),
+        (SUGGEST, SUGGEST_LINE),
+    )
+    for of, line in others:
+        yield f"{of[:1]} between comparisons", (COMPARE + of) * 50 + COMPARE, (COMPARE_LINE + line) * 50 + COMPARE_LINE
+        yield f"{of[:1]} behind a long one", compare(LONGEST, LONGEST) + of + COMPARE, "equal 65532\n" + line + COMPARE_LINE
+    mixed, lines = b"".join(COMPARE + of for of, _ in others), "".join(COMPARE_LINE + line for _, line in others)
+    yield "all letters", mixed * 20, lines * 20
+    # a component is compared as it is, also where a model or a name was before, with other bytes behind it
+    parts = compare(SLASH_A, SLASH_B) + verdict(B) + compare(component(B), component(B))
+    yield "a name and a model as components", parts, "different 1\n" + LINE + "equal 36\n"
