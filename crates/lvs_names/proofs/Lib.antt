@@ -1,2 +1,3 @@
 pub mod Names
-pub mod Begins
+pub mod Alone
+pub mod Comparing

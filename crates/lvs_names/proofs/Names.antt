@@ -29,7 +29,7 @@ use Rattle.lvs_names.specs.Contents.{ContentOf, RowStep}
 use Rattle.lvs_names.specs.declared.Content.{Content}
 use Rattle.lvs_names.specs.declared.Counted.{Counted}
 use Rattle.lvs_names.specs.declared.Counted.the-variants.{Components, Malformed}
-use Rattle.lvs_names.proofs.Begins.{cut-alone, cut-content}
+use Rattle.lvs_names.proofs.Alone.{cut-alone, cut-content}
 
 -- ---- the header
 
@@ -149,7 +149,7 @@ pub row-broken : (name : List ℕ) (at : ℕ) → cuts (drop at name) ≡ broken
 unfolding rowFrom rowAt
 row-broken name at e = rw e
 
-pub row-next : {name : List ℕ} {at t start stop : ℕ} {n : Place} → Bytes name → Step name at t start stop n → RowStep name at stop
+pub row-next : {name : List ℕ} {at t start stop : ℕ} {n : Place} → Bytes name → Step name at t start stop n → RowStep name at (start - at) stop
 unfolding rowFrom rowAt componentOf componentFrom
 row-next {name} {at} {t} {start} {stop} bytes f =
     let size = step-size bytes f in

@@ -5,11 +5,13 @@
 ghost use mathlib.Core.Path.{_≡_};
 ghost use Prim.Native.Nat.{_+_, _≤_};
 ghost use lib.Dec.{eqb};
-ghost use lib.ListN.{length};
+ghost use lib.ListN.{length, take};
+ghost use Rattle.tlv.specs.Bytes.{sameBytes};
 ghost use Rattle.lvs_spec.specs.Model.{componentOf};
-ghost use Rattle.lvs_spec.specs.Names.{same, nameReading};
+ghost use Rattle.lvs_spec.specs.Names.{nameReading};
 ghost use Rattle.lvs_names.specs.Answers.{nameRead, headerOf, countOf};
 ghost use Rattle.lvs_names.specs.Contents.{ContentOf, Alone, ComponentAt};
+ghost use Rattle.lvs_names.specs.Comparing.{ComparedOf, Headed, LastDifference};
 use tlv::Place;
 use tlv::Read;
 
@@ -32,9 +34,9 @@ pub enum Counted {
     Malformed,
 }
 
-// The component at a place of a name ends at a place, or there is none.
+// The component at a place of a name: the size of its header, and the place where it ends; or there is none.
 pub enum ComponentRead {
-    Component(usize),
+    Component(usize, usize),
     End,
 }
 
@@ -43,6 +45,12 @@ pub struct Content {
     pub typ: u32,
     pub start: usize,
     pub end: usize,
+}
+
+// What comparing two components has found, and how many bytes of their values it looked at.
+pub struct Compared {
+    pub equal: bool,
+    pub looked: usize,
 }
 
 // A name; `first` is its refusal for a name that is too long, and the next two are those for a malformed one and for too many components.
@@ -130,10 +138,10 @@ pub fn component_at(name: &[u8], at: usize) -> ComponentRead
     match place.element(name) {
         Read::Found {
             typ: _,
-            start: _,
+            start,
             end,
             next: _,
-        } => ComponentRead::Component(end),
+        } => ComponentRead::Component(start - at, end),
         Read::End => ComponentRead::End,
         Read::Malformed => ComponentRead::End,
     }
@@ -164,17 +172,66 @@ pub fn read_component(s: &[u8]) -> Content
     }
 }
 
-// Whether the component that `s` begins with equals `c`, which is one component and no more. Numbers have only one form, so that bytes are
-// compared. A layer below: any bytes may be `s`; `c` is what the walk has cut out of a name.
-pub fn begins_with(s: &[u8], c: &[u8]) -> bool
-    requires { ⌜ Alone (now c) ⌝ }
-    ensures { λ r. ⌜ r ≡ same (componentOf (now (s .entry))) (componentOf (now (c .entry))) ⌝ }
+// Compares the component that `s` begins with with `c`, which is one component and no more and has a header of `header` bytes: type and length
+// first, then the values from the back. A layer below: any bytes may be `s`; `c` is what the walk has cut out of a name.
+pub fn compare(s: &[u8], c: &[u8], header: usize) -> Compared
+    requires { ⌜ Alone (now c) header ⌝ }
+    ensures { λ r. ⌜ ComparedOf (componentOf (now (s .entry))) (componentOf (now (c .entry))) r ⌝ }
 {
     let n = c.len();
     if s.len() < n {
+        return Compared {
+            equal: false,
+            looked: 0,
+        };
+    }
+    if !same_header(s, c, header) {
+        return Compared {
+            equal: false,
+            looked: 0,
+        };
+    }
+    let left = last_difference(s, c, header);
+    if left == header {
+        return Compared {
+            equal: true,
+            looked: n - header,
+        };
+    }
+    Compared {
+        equal: false,
+        looked: n - left + 1,
+    }
+}
+
+// Whether `s` begins with the header of `c`. Numbers have only one form, so that bytes are compared; nearly all headers have two, the length being
+// the second.
+fn same_header(s: &[u8], c: &[u8], header: usize) -> bool
+    requires { ⌜ Headed (now s) (now c) header ⌝ }
+    ensures { λ r. ⌜ r ≡ sameBytes (take header (now (s .entry))) (take header (now (c .entry))) ⌝ }
+{
+    if s[1] != c[1] {
         return false;
     }
-    tlv::same_bytes(&s[..n], c)
+    if s[0] != c[0] {
+        return false;
+    }
+    tlv::same_bytes(&s[2..header], &c[2..header])
+}
+
+// The place behind the last byte of `c` that is another one in `s`, as far down as `header`; `header` where there is none.
+fn last_difference(s: &[u8], c: &[u8], header: usize) -> usize
+    requires { ⌜ Headed (now s) (now c) header ⌝ }
+    ensures { λ r. ⌜ LastDifference (now (s .entry)) (now (c .entry)) header r ⌝ }
+{
+    let mut left = c.len();
+    while header < left {
+        if s[left - 1] != c[left - 1] {
+            return left;
+        }
+        left -= 1;
+    }
+    header
 }
 
 // Whether the components that two slices begin with have the same type.
