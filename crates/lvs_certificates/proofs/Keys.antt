@@ -20,7 +20,7 @@ use Rattle.lvs_names.specs.Rows.{rowFrom}
 use Rattle.lvs_names.specs.Answers.{nameRead}
 use Rattle.lvs_names.specs.declared.NameRead.{NameRead}
 use Rattle.lvs_names.specs.declared.NameRead.the-variants.{Good, Refused}
-use Rattle.lvs_names.proofs.Begins.{cut-is, cut-element}
+use Rattle.lvs_names.proofs.Alone.{cut-is, cut-element}
 use Rattle.lvs_names.proofs.Names.{good-row}
 use Rattle.lvs_walk.specs.Calls.{signFound, FirstPair}
 use Rattle.lvs_walk.specs.declared.Found.{Found}

@@ -3,7 +3,7 @@
 // A layer below the public calls: `requires` asks for the words of all Tags, which the walk's own array has, and
 // for a component that is cut out.
 //
-// `packet` and `key` are the two names, `slots` the bindings as they stand, and `c` the component that is to pass.
+// `packet` and `key` are the two names, `slots` the bindings as they stand, and `c` the component that is to pass, with a header of `header` bytes.
 ghost use mathlib.Core.Path.{_≡_};
 ghost use lib.Dec.{eqb};
 ghost use Rattle.tlv.specs.Lists.{any, all, is};
@@ -38,16 +38,21 @@ fn bound_same<'a>(
     slots: &[u32; SLOT_WORDS],
     tag: u64,
     c: &[u8],
+    header: usize,
 ) -> bool
     requires { ⌜ Room (now slots) ⌝ }
-    requires { ⌜ Alone (now c) ⌝ }
+    requires { ⌜ Alone (now c) header ⌝ }
     ensures { λ r. ⌜ r ≡ boundTo (bindingsOf (now (packet .entry)) (now (key .entry)) (now (slots .entry))) tag (componentOf (now (c .entry))) ⌝ }
 {
     let slot = lvs_bindings::slot_of(slots, tag);
     if slot.size == 0 {
         return false;
     }
-    lvs_names::begins_with(lvs_bindings::text_from(packet, key, slot.start as usize), c)
+    lvs_names::compare(
+        lvs_bindings::text_from(packet, key, slot.start as usize),
+        c,
+        header,
+    ).equal
 }
 
 // Whether a Tag is bound to a component of the same type.
@@ -107,15 +112,16 @@ fn argument_same<'a>(
     key: &'a [u8],
     slots: &[u32; SLOT_WORDS],
     c: &[u8],
+    header: usize,
 ) -> bool
     requires { ⌜ Room (now slots) ⌝ }
-    requires { ⌜ Alone (now c) ⌝ }
+    requires { ⌜ Alone (now c) header ⌝ }
     ensures { λ r. ⌜ r ≡ is (λ a. same a (componentOf (now (c .entry))))
         (argumentIn (bindingsOf (now (packet .entry)) (now (key .entry)) (now (slots .entry))) (argumentOf (now (s .entry)))) ⌝ }
 {
     match argument_of(s) {
-        ArgumentRead::Value(start, end) => lvs_names::begins_with(&s[start..end], c),
-        ArgumentRead::Tag(tag) => bound_same(packet, key, slots, tag, c),
+        ArgumentRead::Value(start, end) => lvs_names::compare(&s[start..end], c, header).equal,
+        ArgumentRead::Tag(tag) => bound_same(packet, key, slots, tag, c, header),
     }
 }
 
@@ -144,9 +150,10 @@ fn call_holds<'a>(
     key: &'a [u8],
     slots: &[u32; SLOT_WORDS],
     c: &[u8],
+    header: usize,
 ) -> bool
     requires { ⌜ Room (now slots) ⌝ }
-    requires { ⌜ Alone (now c) ⌝ }
+    requires { ⌜ Alone (now c) header ⌝ }
     ensures { λ r. ⌜ r ≡ callHolds (bindingsOf (now (packet .entry)) (now (key .entry)) (now (slots .entry))) (componentOf (now (c .entry)))
         (callOf (now (s .entry))) ⌝ }
 {
@@ -157,7 +164,7 @@ fn call_holds<'a>(
     let a = argument.start;
     let b = argument.end;
     match lvs_functions::function_of(&s[p..q]) {
-        Function::Eq => argument_same(&s[a..b], packet, key, slots, c),
+        Function::Eq => argument_same(&s[a..b], packet, key, slots, c, header),
         Function::EqType => argument_same_type(&s[a..b], packet, key, slots, c),
         Function::IsValidId => lvs_names::value_size(c) == 6,
         Function::IsValidYear => lvs_names::value_size(c) == 4,
@@ -173,20 +180,21 @@ fn term_holds<'a>(
     key: &'a [u8],
     slots: &[u32; SLOT_WORDS],
     c: &[u8],
+    header: usize,
 ) -> bool
     requires { ⌜ Room (now slots) ⌝ }
-    requires { ⌜ Alone (now c) ⌝ }
+    requires { ⌜ Alone (now c) header ⌝ }
     ensures { λ r. ⌜ r ≡ any (termHolds (bindingsOf (now (packet .entry)) (now (key .entry)) (now (slots .entry))) (componentOf (now (c .entry))))
         (termFrom (record { type = typ; inside = now (s .entry) })) ⌝ }
 {
     if typ == VALUE {
-        return lvs_names::begins_with(s, c);
+        return lvs_names::compare(s, c, header).equal;
     }
     if typ == TAG {
-        return bound_same(packet, key, slots, tlv::number_of(s), c);
+        return bound_same(packet, key, slots, tlv::number_of(s), c, header);
     }
     if typ == USER_FN_CALL {
-        return call_holds(s, packet, key, slots, c);
+        return call_holds(s, packet, key, slots, c, header);
     }
     false
 }
@@ -198,9 +206,10 @@ fn option_holds<'a>(
     key: &'a [u8],
     slots: &[u32; SLOT_WORDS],
     c: &[u8],
+    header: usize,
 ) -> bool
     requires { ⌜ Room (now slots) ⌝ }
-    requires { ⌜ Alone (now c) ⌝ }
+    requires { ⌜ Alone (now c) header ⌝ }
     ensures { λ r. ⌜ r ≡ optionHolds (bindingsOf (now (packet .entry)) (now (key .entry)) (now (slots .entry))) (componentOf (now (c .entry)))
         (optionOf (now (s .entry))) ⌝ }
 {
@@ -213,7 +222,7 @@ fn option_holds<'a>(
                 end,
                 next,
             } => {
-                if term_holds(&s[start..end], typ, packet, key, slots, c) {
+                if term_holds(&s[start..end], typ, packet, key, slots, c, header) {
                     return true;
                 }
                 place = next;
@@ -235,9 +244,10 @@ fn constraint_holds<'a>(
     key: &'a [u8],
     slots: &[u32; SLOT_WORDS],
     c: &[u8],
+    header: usize,
 ) -> bool
     requires { ⌜ Room (now slots) ⌝ }
-    requires { ⌜ Alone (now c) ⌝ }
+    requires { ⌜ Alone (now c) header ⌝ }
     ensures { λ r. ⌜ r ≡ constraintHolds (bindingsOf (now (packet .entry)) (now (key .entry)) (now (slots .entry))) (componentOf (now (c .entry)))
         (constraintOf (now (s .entry))) ⌝ }
 {
@@ -252,7 +262,7 @@ fn constraint_holds<'a>(
             } => {
                 place = next;
                 if typ == CONSTRAINT_OPTION {
-                    if option_holds(&s[start..end], packet, key, slots, c) {
+                    if option_holds(&s[start..end], packet, key, slots, c, header) {
                         return true;
                     }
                 }
@@ -267,16 +277,17 @@ fn constraint_holds<'a>(
     }
 }
 
-// Whether every Constraint in `s` holds.
-fn each_holds<'a>(
+// Whether every Constraint of a PatternEdge holds; `s` is the edge, or a part of it with all its Constraints.
+pub fn constraints_hold<'a>(
     s: &[u8],
     packet: &'a [u8],
     key: &'a [u8],
     slots: &[u32; SLOT_WORDS],
     c: &[u8],
+    header: usize,
 ) -> bool
     requires { ⌜ Room (now slots) ⌝ }
-    requires { ⌜ Alone (now c) ⌝ }
+    requires { ⌜ Alone (now c) header ⌝ }
     ensures { λ r. ⌜ r ≡ all (constraintHolds (bindingsOf (now (packet .entry)) (now (key .entry)) (now (slots .entry))) (componentOf (now (c .entry))))
         (patternEdgeOf (now (s .entry)) .constraints) ⌝ }
 {
@@ -291,7 +302,7 @@ fn each_holds<'a>(
             } => {
                 place = next;
                 if typ == CONSTRAINT {
-                    if !constraint_holds(&s[start..end], packet, key, slots, c) {
+                    if !constraint_holds(&s[start..end], packet, key, slots, c, header) {
                         return false;
                     }
                 }
@@ -304,24 +315,4 @@ fn each_holds<'a>(
             }
         }
     }
-}
-
-// Whether every Constraint of a PatternEdge holds; `s` is the edge, or a part of it with all its Constraints. Most edges have none, and are
-// answered without a call.
-pub fn constraints_hold<'a>(
-    s: &[u8],
-    packet: &'a [u8],
-    key: &'a [u8],
-    slots: &[u32; SLOT_WORDS],
-    c: &[u8],
-) -> bool
-    requires { ⌜ Room (now slots) ⌝ }
-    requires { ⌜ Alone (now c) ⌝ }
-    ensures { λ r. ⌜ r ≡ all (constraintHolds (bindingsOf (now (packet .entry)) (now (key .entry)) (now (slots .entry))) (componentOf (now (c .entry))))
-        (patternEdgeOf (now (s .entry)) .constraints) ⌝ }
-{
-    if s.len() == 0 {
-        return true;
-    }
-    each_holds(s, packet, key, slots, c)
 }

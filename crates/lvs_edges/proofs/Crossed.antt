@@ -5,7 +5,9 @@ use mathlib.Core.Bool.{Bool, true, false, cond, _&&_}
 use mathlib.Core.List.{List}
 use mathlib.Core.Option.{none, some, Option·some-injective}
 use native.Mathlib.Omega.{arith}
-use lib.ListN.{length, take, drop}
+use borrow.Author.Tests.{eqb-true}
+use lib.Dec.{eqb}
+use lib.ListN.{length, take, drop, length-drop}
 use Rattle.tlv.specs.Lists.{bind, guard, all}
 use Rattle.tlv.specs.Fields.{theInside, theInteger}
 use Rattle.lvs_spec.specs.Types as type
@@ -19,6 +21,7 @@ use Rattle.lvs_spec.proofs.Bindings.{bound-stays}
 use Rattle.lvs_bindings.specs.Slots.{SlotOf, textFrom, bindingAt, bindingsOf, boundWords, boundTag, without}
 use Rattle.lvs_bindings.specs.declared.Slot.{Slot}
 use Rattle.lvs_bindings.proofs.Slots.{to-end, unbound, is-bound, bound-most, bound-long, bound-bindings, bound-back}
+use Rattle.lvs_constraints.proofs.Holds.{all-empty}
 use Rattle.lvs_edges.specs.Edges.{edgeOf}
 use Rattle.lvs_edges.specs.Crossing.{Ready, FieldsOf, leadsTo, openIf, Crossed, CrossedValue}
 use Rattle.lvs_edges.specs.declared.PatternFields.{PatternFields}
@@ -50,7 +53,8 @@ module _ (s c : List ℕ) {v : List ℕ} (v-is : v ≡ theInside type.Value s) {
   value-open f d = record { leads = λ count β b e. value-leads count β b e ∙ rw (f, ← d); binds-none = refl }
 
 -- under the bindings as they stand, with the component at its place
-pub value-crossed : {count : ℕ} {packet key s c slots : List ℕ} {at : ℕ} {r : Crossing} → Ready count packet key at c slots → CrossedValue s c r
+pub value-crossed : {count : ℕ} {packet key s c slots : List ℕ} {at header : ℕ} {r : Crossing} → Ready count packet key at c header slots
+    → CrossedValue s c r
     → Crossed count packet key (edgeOf false s) (bindingAt packet key at (length c)) slots r slots
 unfolding bindingAt without
 value-crossed {count} {packet} {key} {c = c} {slots = slots} {at = at} ready value =
@@ -63,8 +67,8 @@ value-crossed {count} {packet} {key} {c = c} {slots = slots} {at = at} ready val
 
 -- ---- a PatternEdge
 
-module _ {count : ℕ} {packet key s c slots : List ℕ} {at : ℕ} {f : PatternFields}
-    (ready : Ready count packet key at c slots) (F : FieldsOf s f) where
+module _ {count : ℕ} {packet key s c slots : List ℕ} {at header : ℕ} {f : PatternFields}
+    (ready : Ready count packet key at c header slots) (F : FieldsOf s f) where
   abbrev β : Bindings
   β = bindingsOf packet key slots
 
@@ -97,6 +101,12 @@ module _ {count : ℕ} {packet key s c slots : List ℕ} {at : ℕ} {f : Pattern
       go : (t : Bool) → crosses β (componentOf c) (patternEdgeOf s) ≡ t → Answer (openIf t (f .dest)) slots
       go true e = record { leads = pattern-leads e ∙ rw same-bindings; back = refl; low = omega arith; room = ready .room }
       go false e = pattern-shut e
+
+  -- nothing stands behind the fields, so that there are no Constraints
+  pub none-to-hold : eqb (f .rest) (length s) ≡ true → true ≡ all (constraintHolds β (componentOf c)) (patternEdgeOf part .constraints)
+  none-to-hold e =
+      let ends = eqb-true (f .rest) (length s) e in
+      sym (all-empty β (componentOf c) part (rw (to-end s (f .rest), length-drop (f .rest) s) (omega arith)))
 
   module _ {held : Bool} (held-is : held ≡ all (constraintHolds β (componentOf c)) (patternEdgeOf part .constraints)) where
     -- the part that was tested has all Constraints of the edge

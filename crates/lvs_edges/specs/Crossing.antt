@@ -19,19 +19,19 @@ use Rattle.lvs_edges.specs.declared.PatternFields.{PatternFields}
 use Rattle.lvs_edges.specs.declared.Crossing.{Crossing}
 use Rattle.lvs_edges.specs.declared.Crossing.the-variants.{Shut, Open}
 
--- c is the bytes of the component at a place of the two names' text, and place and size fit a word
-pub record Stands (packet key : List ℕ) (at : ℕ) (c : List ℕ) : Type 0 where
-  pub alone : Alone c
+-- c is the bytes of the component at a place of the two names' text, with a header of this size, and place and size fit a word
+pub record Stands (packet key : List ℕ) (at : ℕ) (c : List ℕ) (header : ℕ) : Type 0 where
+  pub alone : Alone c header
   pub content : componentOf (textFrom packet key at) ≡ componentOf c
   pub low : at < 65536
   pub short : length c < 65536
   pub some : 0 < length c
 
 -- where an edge is to be crossed: the words of all Tags, of which only named ones are bound, and the component
-pub record Ready (count : ℕ) (packet key : List ℕ) (at : ℕ) (c slots : List ℕ) : Type 0 where
+pub record Ready (count : ℕ) (packet key : List ℕ) (at : ℕ) (c : List ℕ) (header : ℕ) (slots : List ℕ) : Type 0 where
   pub room : Room slots
   pub only-named : OnlyNamed count (bindingsOf packet key slots)
-  pub stands : Stands packet key at c
+  pub stands : Stands packet key at c header
 
 -- an edge that begins with a NodeId of one byte
 pub record PlainNode (s : List ℕ) : Type 0 where

@@ -1,7 +1,8 @@
 // A Node's edges, and crossing one with a component. Below the search, so that whoever follows a given path needs no search.
 //
 // `named` is NamedPatternCnt: a Tag above it is temporary, and has no binding. `packet` and `key` are the two names, `slots` the bindings as they
-// stand, and `c` the bytes of the component that is to pass, which stands at `at` of the names' text. `requires` asks for that.
+// stand, and `c` the bytes of the component that is to pass, which stands at `at` of the names' text and has a header of `header` bytes. `requires`
+// asks for that.
 pub mod nodes;
 
 ghost use mathlib.Core.Path.{_≡_};
@@ -81,31 +82,32 @@ pub fn cross<'a>(
     key: &'a [u8],
     at: usize,
     c: &[u8],
+    header: usize,
     slots: &mut [u32; SLOT_WORDS],
 ) -> Crossing
-    requires { ⌜ Ready named (now packet) (now key) at (now c) (now slots) ⌝ }
+    requires { ⌜ Ready named (now packet) (now key) at (now c) header (now slots) ⌝ }
     ensures { λ r. ⌜ Crossed named (now (packet .entry)) (now (key .entry)) (edgeOf pattern (now (s .entry)))
         (bindingAt (now (packet .entry)) (now (key .entry)) at (length (now (c .entry)))) (now (slots .entry)) r (now (slots .exit)) ⌝ }
 {
     if pattern {
-        return cross_pattern(s, named, packet, key, at, c, slots);
+        return cross_pattern(s, named, packet, key, at, c, header, slots);
     }
-    cross_value(s, c)
+    cross_value(s, c, header)
 }
 
 // Crosses a ValueEdge. Where it leads is read only when the component passes.
-fn cross_value(s: &[u8], c: &[u8]) -> Crossing
-    requires { ⌜ Alone (now c) ⌝ }
+fn cross_value(s: &[u8], c: &[u8], header: usize) -> Crossing
+    requires { ⌜ Alone (now c) header ⌝ }
     ensures { λ r. ⌜ CrossedValue (now (s .entry)) (now (c .entry)) r ⌝ }
 {
-    if lvs_names::begins_with(value_of(s), c) {
+    if lvs_names::compare(value_of(s), c, header).equal {
         return Crossing::Open(destination(s), 0);
     }
     Crossing::Shut
 }
 
 // Crosses a PatternEdge: a bound Tag is compared, and an unbound one is bound. Constraints are tested before that; for a temporary Tag they are
-// all there is to test.
+// all there is to test. Most edges have none, and are crossed without a call.
 fn cross_pattern<'a>(
     s: &[u8],
     named: u64,
@@ -113,30 +115,42 @@ fn cross_pattern<'a>(
     key: &'a [u8],
     at: usize,
     c: &[u8],
+    header: usize,
     slots: &mut [u32; SLOT_WORDS],
 ) -> Crossing
-    requires { ⌜ Ready named (now packet) (now key) at (now c) (now slots) ⌝ }
+    requires { ⌜ Ready named (now packet) (now key) at (now c) header (now slots) ⌝ }
     ensures { λ r. ⌜ Crossed named (now (packet .entry)) (now (key .entry)) (edgeOf true (now (s .entry)))
         (bindingAt (now (packet .entry)) (now (key .entry)) at (length (now (c .entry)))) (now (slots .entry)) r (now (slots .exit)) ⌝ }
 {
     let fields = pattern_fields(s);
     let tag = fields.tag;
     let rest = fields.rest;
+    let plain = rest == s.len();
     if named < tag {
-        let held = lvs_constraints::constraints_hold(&s[rest..], packet, key, slots, c);
+        if plain {
+            return Crossing::Open(fields.dest, 0);
+        }
+        let held = lvs_constraints::constraints_hold(&s[rest..], packet, key, slots, c, header);
         return open_if(held, fields.dest);
     }
     let slot = lvs_bindings::slot_of(slots, tag);
     if slot.size == 0 {
-        if !lvs_constraints::constraints_hold(&s[rest..], packet, key, slots, c) {
+        if plain {
+            return Crossing::Open(fields.dest, lvs_bindings::bind_tag(slots, tag, at, c.len()));
+        }
+        if !lvs_constraints::constraints_hold(&s[rest..], packet, key, slots, c, header) {
             return Crossing::Shut;
         }
         return Crossing::Open(fields.dest, lvs_bindings::bind_tag(slots, tag, at, c.len()));
     }
-    if !lvs_names::begins_with(lvs_bindings::text_from(packet, key, slot.start as usize), c) {
+    let text = lvs_bindings::text_from(packet, key, slot.start as usize);
+    if !lvs_names::compare(text, c, header).equal {
         return Crossing::Shut;
     }
-    let held = lvs_constraints::constraints_hold(&s[rest..], packet, key, slots, c);
+    if plain {
+        return Crossing::Open(fields.dest, 0);
+    }
+    let held = lvs_constraints::constraints_hold(&s[rest..], packet, key, slots, c, header);
     open_if(held, fields.dest)
 }
 

@@ -7,10 +7,10 @@ use native.Mathlib.Omega.{arith}
 use borrow.Author.Tests.{eq-eqb, ne-eqb, eqb-true, leb-true}
 use lib.Dec.{eqb, leb}
 use lib.ListN.{length, take, drop, getD, length-append, length-drop, take-append-drop, drop-of-length-le}
-use lib.Seq.{take-append-seam, take-at, take-take, take-all, length-take-le, drop-length, drop-cons, split-at, drop-drop, getD-drop, getD-take}
+use lib.Seq.{take-at, take-take, take-all, length-take-le, drop-length, drop-cons, split-at, drop-drop, getD-drop, getD-take}
 use Rattle.tlv.specs.Bytes.{Bytes, sameBytes}
 use Rattle.tlv.specs.Number.{numberBytes}
-use Rattle.tlv.specs.Element.{Element, First, end, malformed, first, element, typeInRange, elementBytes, InRange}
+use Rattle.tlv.specs.Element.{Element, First, end, malformed, first, element, typeInRange, elementBytes}
 use Rattle.tlv.proofs.Bytes.{same-refl, same-true}
 use Rattle.tlv.proofs.Numbers.{number-size}
 use Rattle.tlv.proofs.Cuts.{Whole, element-whole}

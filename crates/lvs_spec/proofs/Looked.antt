@@ -61,4 +61,5 @@ module _ (a b : Element) where
       → (x ≡ y → ⊥) → looked a b ≡ length zs + 1
   looked-unequal xs ys zs {x} {y} t l p q n =
       let s : length (a .inside) ≡ length (b .inside) = rw (p, q, length-append xs (x ∷ zs), length-append ys (y ∷ zs), l) in
-      from-back t s ∙ rw (p, q, reversed xs x zs, reversed ys y zs) (one-unequal (reverse zs) (reverse xs) (reverse ys) n) ∙ ap (λ (k : ℕ). k + 1) (length-reverse zs)
+      let front = one-unequal (reverse zs) (reverse xs) (reverse ys) n in
+      from-back t s ∙ rw (p, q, reversed xs x zs, reversed ys y zs) front ∙ ap (λ (k : ℕ). k + 1) (length-reverse zs)

@@ -58,14 +58,14 @@ module _ (packet key : List ℕ) (goal : Goal) where
         go (Key p) h = rw (le-ltb (length packet + at) (length packet) (omega arith)) (omega arith)
 
   -- the row goes on with the component that was found
-  row-found : {at stop : ℕ} → RowStep (nameFor packet key goal) at stop
+  row-found : {at header stop : ℕ} → RowStep (nameFor packet key goal) at header stop
       → rowFor packet key goal at ≡ bindingAt packet key (textPlace packet goal at) (stop - at) ∷ rowFor packet key goal stop
   unfolding bindingAt rowFor nameFor packetRow keyRow
-  row-found {at} {stop} f =
+  row-found {at} {header} {stop} f =
       let inside : at < length (nameFor packet key goal) = omega (arith, f .after, f .within) in
       rw (place-is at inside, text-is at inside) (go goal f)
     where
-      go : (g : Goal) → RowStep (nameFor packet key g) at stop
+      go : (g : Goal) → RowStep (nameFor packet key g) at header stop
           → rowFor packet key g at ≡
           record { component = record { start = at; size = stop - at; content = componentOf (drop at (nameFor packet key g)) } } ∷
           rowFor packet key g stop
@@ -85,23 +85,23 @@ module _ (packet key : List ℕ) (goal : Goal) where
 -- ---- from what the callees ensure
 
 -- a component was found at a place of the goal's name
-pub record Component (packet key : List ℕ) (goal : Goal) (at stop text : ℕ) (c : List ℕ) : Type 0 where
+pub record Component (packet key : List ℕ) (goal : Goal) (at header stop text : ℕ) (c : List ℕ) : Type 0 where
   pub after : at < stop
   pub within : stop ≤ length (nameFor packet key goal)
-  pub stands : Stands packet key text c
+  pub stands : Stands packet key text c header
   pub row-is : rowFor packet key goal at ≡ bindingAt packet key text (length c) ∷ rowFor packet key goal stop
 
 module _ (packet key : List ℕ) (goal : Goal) (at : ℕ) {name : List ℕ} (name-is : name ≡ nameFor packet key goal) {r : ComponentRead}
     (read : ComponentAt name at r) where
-  pub has-component : {stop : ℕ} → r ≡ AComponent stop → RowStep (nameFor packet key goal) at stop
-  has-component {stop} e = rw name-is at (subst (ComponentAt name at) e read)
+  pub has-component : {header stop : ℕ} → r ≡ AComponent header stop → RowStep (nameFor packet key goal) at header stop
+  has-component e = rw name-is at (subst (ComponentAt name at) e read)
 
   pub no-component : r ≡ Ended → rowFor packet key goal at ≡ []
   no-component e = row-ended packet key goal at (rw name-is at (subst (ComponentAt name at) e read))
 
-module _ (packet key : List ℕ) (goal : Goal) (at : ℕ) {name c : List ℕ} {stop text : ℕ} (packet-short : length packet ≤ maxNameBytes)
+module _ (packet key : List ℕ) (goal : Goal) (at : ℕ) {name c : List ℕ} {header stop text : ℕ} (packet-short : length packet ≤ maxNameBytes)
     (key-short : length key ≤ maxNameBytes) (name-is : name ≡ nameFor packet key goal) (c-is : c ≡ take (stop - at) (drop at name))
-    (text-at : text ≡ textPlace packet goal at) (f : RowStep (nameFor packet key goal) at stop) where
+    (text-at : text ≡ textPlace packet goal at) (f : RowStep (nameFor packet key goal) at header stop) where
   c-there : c ≡ take (stop - at) (drop at (nameFor packet key goal))
   c-there = rw name-is at c-is
 
@@ -110,7 +110,7 @@ module _ (packet key : List ℕ) (goal : Goal) (at : ℕ) {name c : List ℕ} {s
       let l = length-drop at (nameFor packet key goal) in
       ap length c-there ∙ length-take-le (stop - at) (drop at (nameFor packet key goal)) (omega (arith, f .within, l))
 
-  pub component : Component packet key goal at stop text c
+  pub component : Component packet key goal at header stop text c
   component =
       let inside : at < length (nameFor packet key goal) = omega (arith, f .after, f .within) in
       let t : textFrom packet key text ≡ drop at (nameFor packet key goal) = rw text-at (text-is packet key goal at inside) in

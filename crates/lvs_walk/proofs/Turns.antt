@@ -161,8 +161,8 @@ searchAt model named packet key goal v stop text c slots bytes =
     }
 
 -- what is found for the component and those after it is what the walk looks for
-pub begun : (model : List ℕ) (named v : ℕ) (slots : List ℕ) {packet key : List ℕ} {goal : Goal} {at stop text : ℕ} {c : List ℕ}
-    → Component packet key goal at stop text c
+pub begun : (model : List ℕ) (named v : ℕ) (slots : List ℕ) {packet key : List ℕ} {goal : Goal} {at header stop text : ℕ} {c : List ℕ}
+    → Component packet key goal at header stop text c
     → {r : Found} {after : List ℕ} → First packet key (whole (searchAt model named packet key goal v stop text c slots [])) slots r after
     → First packet key (hits (modelOf model) key goal (rowFor packet key goal at) (record { node = v; bindings = bindingsOf packet key slots })) slots r after
 begun model named v slots C g = rw (C .row-is) g

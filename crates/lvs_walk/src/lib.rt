@@ -92,7 +92,7 @@ fn walk<'a>(
         (now (slots .entry)) r (now (slots .exit)) ⌝ }
 {
     let name = name_for(packet, key, goal);
-    let ComponentRead::Component(end) = lvs_names::component_at(name, at) else {
+    let ComponentRead::Component(header, end) = lvs_names::component_at(name, at) else {
         return match goal {
             Goal::Match => Found::At(node, node),
             Goal::Packet { start, from } => {
@@ -114,7 +114,17 @@ fn walk<'a>(
             return Found::Nothing;
         };
         from = next;
-        let crossing = lvs_edges::cross(&edges[p..q], pattern, named, packet, key, text, c, slots);
+        let crossing = lvs_edges::cross(
+            &edges[p..q],
+            pattern,
+            named,
+            packet,
+            key,
+            text,
+            c,
+            header,
+            slots,
+        );
         if let Crossing::Open(dest, bound) = crossing {
             let r = walk(model, places, named, packet, key, goal, dest, end, slots);
             if let Found::At(_, _) = r {

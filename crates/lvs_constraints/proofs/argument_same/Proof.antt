@@ -7,20 +7,20 @@ use Rattle.lvs_constraints.proofs.Bound.{bound-argument}
 use Rattle.lvs_constraints.proofs.argument_same.Statement.{statement}
 use Rattle.lvs_constraints.proofs.argument_same.Tie as tie
 
-sub-begins-with : tie.Need-sub-begins-with
-sub-begins-with c = subst (ArgumentAt _) (c .before .start .given .1) (c .before .before .before .argument-of .ensures) .order
+sub-compare : tie.Need-sub-compare
+sub-compare c = subst (ArgumentAt _) (c .before .start .given .1) (c .before .before .before .argument-of .ensures) .order
 
-part-begins-with-start : tie.Need-part-begins-with-start
-part-begins-with-start c = subst (ArgumentAt _) (c .before .start .given .1) (c .before .before .before .argument-of .ensures) .order
+part-compare-start : tie.Need-part-compare-start
+part-compare-start c = subst (ArgumentAt _) (c .before .start .given .1) (c .before .before .before .argument-of .ensures) .order
 
-part-begins-with-end : tie.Need-part-begins-with-end
-part-begins-with-end c = subst (ArgumentAt _) (c .before .start .given .1) (c .before .before .before .argument-of .ensures) .within
+part-compare-end : tie.Need-part-compare-end
+part-compare-end c = subst (ArgumentAt _) (c .before .start .given .1) (c .before .before .before .argument-of .ensures) .within
 
 returns : tie.Need-returns
 unfolding argumentIn
 returns c =
     let value = c .before .before .before in
-    c .begins-with .ensures ∙ sym (rw (subst (ArgumentAt _) (value .start .given .1) (value .before .before .argument-of .ensures) .is))
+    c .compare .ensures .equal ∙ sym (rw (subst (ArgumentAt _) (value .start .given .1) (value .before .before .argument-of .ensures) .is))
 
 returns-2 : tie.Need-returns-2
 returns-2 c =
@@ -33,9 +33,9 @@ argument-same-spec =
     (tie.spec
     (λ c κs. search needs)
     (λ c. search needs)
-    sub-begins-with
-    part-begins-with-start
-    part-begins-with-end
+    sub-compare
+    part-compare-start
+    part-compare-end
     (λ c κs. search needs)
     (λ c. search needs)
     (λ c κs. search needs)

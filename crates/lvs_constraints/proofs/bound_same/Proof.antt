@@ -23,7 +23,7 @@ returns-2 c =
     let s = read (c .before) in
     let a = start s .args in
     let bound = tag-some (start s .pre .0) (s .slot-of .ensures) (a .packet .now) (a .key .now) _ (c .before .before .before .if1 .left) in
-    c .begins-with .ensures ∙ rw (c .before .text-from .ensures) (sym (bound-argument _ _ _ ∙ bound))
+    c .compare .ensures .equal ∙ rw (c .before .text-from .ensures) (sym (bound-argument _ _ _ ∙ bound))
 
 pub bound-same-spec : {M : Type 1} → statement M
 bound-same-spec =

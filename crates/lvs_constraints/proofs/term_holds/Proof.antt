@@ -6,7 +6,7 @@ use Rattle.lvs_constraints.proofs.term_holds.Statement.{statement}
 use Rattle.lvs_constraints.proofs.term_holds.Tie as tie
 
 returns : tie.Need-returns
-returns c = c .begins-with .ensures ∙ sym (term-value _ _ _ _ (c .before .if1 .taken))
+returns c = c .compare .ensures .equal ∙ sym (term-value _ _ _ _ (c .before .if1 .taken))
 
 returns-2 : tie.Need-returns-2
 returns-2 c = c .bound-same .ensures ∙ rw (c .before .number-of .ensures) (sym (term-tag _ _ _ _ (c .before .before .if2 .taken)))

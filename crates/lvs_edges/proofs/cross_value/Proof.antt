@@ -7,10 +7,10 @@ use Rattle.lvs_edges.proofs.cross_value.Tie as tie
 returns : tie.Need-returns
 returns c =
     let began = c .before .before in
-    value-open _ _ (began .before .value-of .ensures) (began .begins-with .ensures) (c .before .if1 .taken) (c .destination .ensures)
+    value-open _ _ (began .before .value-of .ensures) (began .compare .ensures .equal) (c .before .if1 .taken) (c .destination .ensures)
 
 returns-2 : tie.Need-returns-2
-returns-2 c = value-shut _ _ (c .before .before .value-of .ensures) (c .before .begins-with .ensures) (c .if1 .left)
+returns-2 c = value-shut _ _ (c .before .before .value-of .ensures) (c .before .compare .ensures .equal) (c .if1 .left)
 
 pub cross-value-spec : {M : Type 1} → statement M
 cross-value-spec =

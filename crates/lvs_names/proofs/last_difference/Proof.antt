@@ -1,5 +1,4 @@
 -- `lvs_names::last_difference` meets its contract. The invariant: no byte from `left` on differs. Assumes nothing.
-use borrow.Author.Needs.{needs}
 use native.Mathlib.Omega.{arith}
 use Rattle.lvs_names.specs.Comparing.{AlikeFrom}
 use Rattle.lvs_names.proofs.Comparing.{alike-end, alike-more, none-differs}

@@ -1,7 +1,6 @@
 -- `lvs_names::same_header` meets its contract. Assumes nothing.
 use borrow.Author.Needs.{needs}
 use native.Mathlib.Omega.{arith}
-use Rattle.lvs_names.specs.Comparing.{Headed}
 use Rattle.lvs_names.proofs.Comparing.{first-differs, second-differs, two-agree}
 use Rattle.lvs_names.proofs.same_header.Statement.{statement}
 use Rattle.lvs_names.proofs.same_header.Tie as tie

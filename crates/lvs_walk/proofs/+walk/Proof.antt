@@ -69,11 +69,11 @@ calls t = (
 )
 
 abbrev Inv : walk-lts.InvT-loop
-Inv model places named packet key goal node at slots₀ end c text a b edges from₀ slots from =
+Inv model places named packet key goal node at slots₀ header end c text a b edges from₀ slots from =
     Turn (searchAt model named packet key goal node end text c slots₀ edges) slots from
 
 abbrev μ : walk-lts.MeasureT-loop
-μ model places named packet key goal node at slots₀ end c text a b edges from₀ slots from = length edges - from
+μ model places named packet key goal node at slots₀ header end c text a b edges from₀ slots from = length edges - from
 
 -- a need, or a place of the code, with all this
 abbrev at : (walk-lts.Claims → In 4 walk-kinds.ps → Out 4 walk-kinds.ps walk-kinds.r → walk-lts.InvT-loop → walk-lts.MeasureT-loop → Type 0) → ℕ → Type 0
@@ -98,20 +98,22 @@ ended t c =
     (c .enum-told .given .1)
 
 -- there is one
-step : (t : ℕ) (c : at walk-lts.After-end t)
-    → let s = start t (c .before .before) in RowStep (nameFor (s .args .packet .now) (s .args .key .now) (s .args .goal)) (s .args .at) (c .end .given .0 .0)
+step : (t : ℕ) (c : at walk-lts.After-header t)
+    → let s = start t (c .before .before) in
+    RowStep (nameFor (s .args .packet .now) (s .args .key .now) (s .args .goal)) (s .args .at) (c .header .given .0 .0) (c .header .given .0 .1 .0)
 step t c =
     let read = c .before .before in
     let s = start t read in
     has-component (s .args .packet .now) (s .args .key .now) (s .args .goal) (s .args .at) (read .before .name-for .ensures) (read .component-at .ensures)
-    (c .end .given .1)
+    (c .header .given .1)
 
 -- where the component is in the two names' text, and the rest of the row
 here : (t : ℕ) (c : at walk-lts.After-text-place t)
     → let found = c .before .before .before in
     let s = start t (found .before .before) in
-    let stop = found .end .given .0 .0 in
-    Component (s .args .packet .now) (s .args .key .now) (s .args .goal) (s .args .at) stop (c .text-place .result)
+    let header = found .header .given .0 .0 in
+    let stop = found .header .given .0 .1 .0 in
+    Component (s .args .packet .now) (s .args .key .now) (s .args .goal) (s .args .at) header stop (c .text-place .result)
     (take (stop - s .args .at) (drop (s .args .at) (found .before .before .before .name-for .result .now)))
 here t c =
     let found = c .before .before .before in
