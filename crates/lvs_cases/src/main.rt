@@ -10,12 +10,15 @@
 //     C  model, packet name, list      certificate INDEX | none | refused NUMBER INDEX
 //     W  numbers, texts, output        written BYTES | refused NUMBER NODE, then the output
 //     D  model, numbers, texts         described NUMBERS BYTES | refused NUMBER NODE, then the numbers and the texts
+//     E  component, component          equal BYTES | different BYTES, the value bytes that were looked at
 //
 // Words are binding words of 4 bytes, numbers have 8 (high byte first): each is printed in decimal, with a blank before it. Bytes are printed
 // as one blank and lowercase hexadecimal digits; no bytes as nothing. A name has at most 4,096 bytes, words as many, and every other field
-// 65,536. A field that is too long or holds part of a word or number, a cut case or another letter prints `broken` and ends.
+// 65,536. A field that is too long or holds part of a word or number or anything but one component, a cut case or another letter prints `broken`
+// and ends.
 ghost use Prim.Native.Nat.{_≤_};
 
+mod comparing;
 mod describing;
 mod input;
 mod judging;
@@ -90,7 +93,7 @@ fn answer_cases(
     used
 }
 
-// All but `W` begin with a model; its output goes where the others have theirs.
+// All but `W` begin with a model, or a component in its place; the output of `W` goes there.
 fn answer_case(
     letter: u8,
     space: &mut Buffer,
@@ -119,6 +122,7 @@ fn answer_case(
         b'S' => signing::answer(space, behind, &model[..n], out, used),
         b'C' => suggesting::answer(space, behind, &model[..n], texts, out, used),
         b'D' => describing::answer(space, behind, &model[..n], numbers, texts, out, used),
+        b'E' => comparing::answer(space, behind, &model[..n], texts, out, used),
         _ => turn::broken(behind, used),
     }
 }
