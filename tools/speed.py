@@ -166,9 +166,19 @@ def temporary():
     yield from backtracking("deep backtracking, temporary", named=0)
 
 
+def compared():
+    """32 ways out of the start with values of 100 bytes or more, the last of which is taken: unequal in one byte, or in length."""
+    shapes = {"last byte": lambda i: "d" * 99 + chr(48 + i), "first byte": lambda i: chr(48 + i) + "d" * 99, "length": lambda i: "d" * (100 + i)}
+    for what, value in shapes.items():
+        ways = [build.value_edge(i, value(i)) for i in range(1, 33)]
+        nodes = [build.node(0, *ways), *(build.node(i, build.parent(0), build.signer(i)) for i in range(1, 33))]
+        name = build.name(value(32))
+        yield f"long values, {what}", build.model(*nodes), name, name
+
+
 def signings():
     """(what, model, packet name, key name)"""
-    for calls in (tutorial, long_names, many_nodes, bushy_models, backtracking, temporary):
+    for calls in (tutorial, long_names, many_nodes, bushy_models, backtracking, temporary, compared):
         yield from calls()
 
 
