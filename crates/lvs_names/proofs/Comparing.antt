@@ -51,6 +51,21 @@ none-differs {header = header} {left = left} inv low =
     let e : left ≡ header = omega (arith, inv .low) in
     record { behind = rw e at inv; unequal = λ more. absurd (omega arith) }
 
+-- ---- what stands behind a header of h bytes, around byte `left - 1`
+
+module _ (l : List ℕ) (h left : ℕ) (more : h < left) where
+  pub behind-header : getD (drop h l) (left - 1 - h) 0 ≡ getD l (left - 1) 0
+  behind-header = let e : h + (left - 1 - h) ≡ left - 1 = omega (arith, more) in getD-drop h l (left - 1 - h) 0 ∙ rw e
+
+  module _ (high : left ≤ length l) where
+    pub front-size : length (take (left - 1 - h) (drop h l)) ≡ left - 1 - h
+    front-size = length-take-le (left - 1 - h) (drop h l) (omega (arith, length-drop h l, high))
+
+    pub cut-around : drop h l ≡ take (left - 1 - h) (drop h l) ++ getD l (left - 1) 0 ∷ drop left l
+    cut-around =
+        let e : h + suc (left - 1 - h) ≡ left = omega (arith, more) in
+        split-at (drop h l) (left - 1 - h) 0 (omega (arith, length-drop h l, high, more)) ∙ rw (behind-header, drop-drop (suc (left - 1 - h)) h l, e)
+
 -- ---- the header's bytes
 
 two-first : (s : List ℕ) (h : ℕ) → 2 ≤ h → h ≤ length s → take h s ≡ getD s 0 0 ∷ getD s 1 0 ∷ take (h - 2) (drop 2 s)
@@ -228,26 +243,35 @@ module _ (s c : List ℕ) (bytes : Bytes s) (bytes-c : Bytes c) {header : ℕ} (
           let eq : same d e ≡ true = ap (λ (x : Element). same x e) p ∙ same-itself e in
           of-d (record { equal = sym eq; looked = sym (looked-equal d e eq ∙ d-long ∙ omega (arith, c-long)) })
 
-      pub compared-unequal : {left : ℕ} → LastDifference s c header left → (left ≡ header → ⊥)
-          → ComparedOf (componentOf s) e (record { equal = false; looked = length c - left + 1 })
-      compared-unequal {left} last n =
-          let b = last .behind in
-          let more : header < left = omega (arith, b .low) in
-          let j = left - 1 - header in
-          let next : header + suc j ≡ left = omega arith in
-          let last-one : header + j ≡ left - 1 = omega arith in
-          let cut : (l : List ℕ) → length l ≡ length c → drop header l ≡ take j (drop header l) ++ getD l (left - 1) 0 ∷ drop left l =
-          λ l k. split-at (drop header l) j 0 (omega (arith, length-drop header l, b .high)) ∙
-          rw (getD-drop header l j 0, last-one, drop-drop (suc j) header l, next) in
-          let x-is : getD front (left - 1) 0 ≡ getD s (left - 1) 0 = getD-take (length c) s (left - 1) 0 (omega (arith, b .high)) in
-          let d-cut : d .inside ≡ take j (drop header front) ++ getD s (left - 1) 0 ∷ drop left c = cut front front-long ∙ rw (x-is, b .alike) in
-          let e-cut : e .inside ≡ take j (drop header c) ++ getD c (left - 1) 0 ∷ drop left c = inside-is ∙ cut c refl in
-          let as-long : (l : List ℕ) → length l ≡ length c → length (take j (drop header l)) ≡ j =
-          λ l k. length-take-le j (drop header l) (omega (arith, length-drop header l, b .high)) in
-          let xs-long : length (take j (drop header front)) ≡ length (take j (drop header c)) = as-long front front-long ∙ sym (as-long c refl) in
-          let unequal = last .unequal more in
-          let at-j : (l : List ℕ) → getD (drop header l) j 0 ≡ getD l (left - 1) 0 = λ l. getD-drop header l j 0 ∙ ap (λ (k : ℕ). getD l k 0) last-one in
-          let differ : d ≡ e → ⊥ =
-          λ p. unequal (sym x-is ∙ sym (at-j front) ∙ ap (λ (x : Element). getD (x .inside) j 0) p ∙ ap (λ (l : List ℕ). getD l j 0) inside-is ∙ at-j c) in
-          let count = looked-unequal d e (take j (drop header front)) (take j (drop header c)) (drop left c) refl xs-long d-cut e-cut unequal in
-          of-d (record { equal = not-same d e differ; looked = sym (count ∙ rw (length-drop left c)) })
+      -- the byte before `left` differs
+      module _ {left : ℕ} (last : LastDifference s c header left) (some : left ≡ header → ⊥) where
+        more : header < left
+        more = omega (arith, last .behind .low)
+
+        -- what stands between the header and that byte
+        abbrev between : List ℕ → List ℕ
+        between l = take (left - 1 - header) (drop header l)
+
+        byte-is : getD front (left - 1) 0 ≡ getD s (left - 1) 0
+        byte-is = getD-take (length c) s (left - 1) 0 (omega (arith, last .behind .high, more))
+
+        d-cut : d .inside ≡ between front ++ getD s (left - 1) 0 ∷ drop left c
+        d-cut = cut-around front header left more (omega (arith, last .behind .high, front-long)) ∙ rw (byte-is, last .behind .alike)
+
+        e-cut : e .inside ≡ between c ++ getD c (left - 1) 0 ∷ drop left c
+        e-cut = inside-is ∙ cut-around c header left more (last .behind .high)
+
+        equal-bytes : d ≡ e → getD s (left - 1) 0 ≡ getD c (left - 1) 0
+        equal-bytes p =
+            let there : getD (drop header front) (left - 1 - header) 0 ≡ getD (drop header c) (left - 1 - header) 0 =
+            ap (λ (x : Element). getD (x .inside) (left - 1 - header) 0) p ∙ ap (λ (l : List ℕ). getD l (left - 1 - header) 0) inside-is in
+            sym (behind-header front header left more ∙ byte-is) ∙ there ∙ behind-header c header left more
+
+        pub compared-unequal : ComparedOf (componentOf s) e (record { equal = false; looked = length c - left + 1 })
+        compared-unequal =
+            let high = last .behind .high in
+            let long-d = front-size front header left more (omega (arith, high, front-long)) in
+            let long-e = front-size c header left more high in
+            let unequal = last .unequal more in
+            let count = looked-unequal d e (between front) (between c) (drop left c) refl (long-d ∙ sym long-e) d-cut e-cut unequal in
+            of-d (record { equal = not-same d e (λ p. unequal (equal-bytes p)); looked = sym (count ∙ rw (length-drop left c)) })

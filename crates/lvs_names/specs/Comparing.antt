@@ -1,4 +1,4 @@
--- Two components compared: what is answered, and by the bytes that they stand in.
+-- Two components compared: what is answered, and what the bytes that they stand in have to do with it.
 use Prim.Native.Nat.{ℕ, _-_, _≤_, _<_}
 use mathlib.Core.Path.{_≡_}
 use mathlib.Core.List.{List}
@@ -7,6 +7,7 @@ use Rattle.tlv.specs.Element.{Element}
 use Rattle.lvs_spec.specs.Names.{same, looked}
 use Rattle.lvs_names.specs.declared.Compared.{Compared}
 
+-- whether two components are equal, and how many value bytes were looked at
 pub record ComparedOf (a b : Element) (r : Compared) : Type 0 where
   pub equal : r .equal ≡ same a b
   pub looked : r .looked ≡ looked a b

@@ -35,13 +35,12 @@ reversed xs x zs =
 module _ (a b : Element) where
   pub looked-other : (a .type ≡ b .type → length (a .inside) ≡ length (b .inside) → ⊥) → looked a b ≡ 0
   unfolding looked
-  looked-other n = go (eqb (a .type) (b .type)) (eqb (length (a .inside)) (length (b .inside))) refl refl
+  looked-other n = rw (neither (eqb (a .type) (b .type)) (eqb (length (a .inside)) (length (b .inside))) refl refl)
     where
-      go : (t u : Bool) → eqb (a .type) (b .type) ≡ t → eqb (length (a .inside)) (length (b .inside)) ≡ u
-          → cond (t && u) (untilUnequal (reverse (a .inside)) (reverse (b .inside))) 0 ≡ 0
-      go true true p q = absurd (n (eqb-true _ _ p) (eqb-true _ _ q))
-      go true false p q = refl
-      go false u p q = refl
+      neither : (t u : Bool) → eqb (a .type) (b .type) ≡ t → eqb (length (a .inside)) (length (b .inside)) ≡ u → (t && u) ≡ false
+      neither true true p q = absurd (n (eqb-true _ _ p) (eqb-true _ _ q))
+      neither true false p q = refl
+      neither false u p q = refl
 
   from-back : a .type ≡ b .type → length (a .inside) ≡ length (b .inside)
       → looked a b ≡ untilUnequal (reverse (a .inside)) (reverse (b .inside))
