@@ -125,9 +125,9 @@ fn cross_pattern<'a>(
     let fields = pattern_fields(s);
     let tag = fields.tag;
     let rest = fields.rest;
-    let plain = rest == s.len();
+    let unconstrained = rest == s.len();
     if named < tag {
-        if plain {
+        if unconstrained {
             return Crossing::Open(fields.dest, 0);
         }
         let held = lvs_constraints::constraints_hold(&s[rest..], packet, key, slots, c, header);
@@ -135,7 +135,7 @@ fn cross_pattern<'a>(
     }
     let slot = lvs_bindings::slot_of(slots, tag);
     if slot.size == 0 {
-        if plain {
+        if unconstrained {
             return Crossing::Open(fields.dest, lvs_bindings::bind_tag(slots, tag, at, c.len()));
         }
         if !lvs_constraints::constraints_hold(&s[rest..], packet, key, slots, c, header) {
@@ -147,7 +147,7 @@ fn cross_pattern<'a>(
     if !lvs_names::compare(text, c, header).equal {
         return Crossing::Shut;
     }
-    if plain {
+    if unconstrained {
         return Crossing::Open(fields.dest, 0);
     }
     let held = lvs_constraints::constraints_hold(&s[rest..], packet, key, slots, c, header);
