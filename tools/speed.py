@@ -1,7 +1,9 @@
 #!/usr/bin/env python3
 """The speed of lvs_cases and of the reference checker (reference/, in Rust, release build) on the same cases, and the ratios.
 
-usage: speed.py [WORD..]    only the rows whose name has one of the words; none: all, in about twelve minutes
+usage: speed.py [--against PROGRAM] [WORD..]    only the rows whose name has one of the words; none: all, in about twelve minutes
+
+With --against the second program is not the reference but another lvs_cases, such as one that was built before a change.
 
 A case is run many times by both programs. What reading and printing it costs is taken off: the same run with a model of the same length
 whose first byte is wrong, which both refuse at once; of a description to write, the same with a number that makes it none, near its front. Instructions are counted by valgrind --tool=callgrind. The ratio of the times is
@@ -30,7 +32,7 @@ sys.dont_write_bytecode = True
 import build  # noqa: E402
 from compare import build_reference, OURS, REFERENCE  # noqa: E402
 
-PROGRAMS = OURS / "lvs_cases", REFERENCE / "answer_cases"
+PROGRAMS = [OURS / "lvs_cases", REFERENCE / "answer_cases"]
 COUNTED = 4  # times that a case is run under callgrind
 TIMED_SECONDS = 0.3  # for one timed run of ours, about
 TURNS = 9
@@ -298,13 +300,13 @@ def walks():
 
 
 NAMES, WALK, PLACES = "lvs_names::read_name", "lvs_walk::walk", "lvs_edges::nodes::node_places"
-THEIR_NAMES, THEIR_WALK = "*Name*load*", "*walk_from*"
+THEIRS = {"names": "*Name*load*", "walk": "*walk_from*"}  # as the reference calls the first two
 
 
 def walk_row(what, cases):
     ours, theirs = (lambda *inside, program=program: instructions(program, b"".join(cases), *inside) / len(cases) for program in PROGRAMS)
-    walk, their_walk = ours(WALK), theirs(THEIR_WALK)
-    request, their_request = walk + ours(NAMES), their_walk + theirs(THEIR_NAMES)
+    walk, their_walk = ours(WALK), theirs(THEIRS["walk"])
+    request, their_request = walk + ours(NAMES), their_walk + theirs(THEIRS["names"])
     print(f"{what:<28}{request:>10.0f}{their_request:>10.0f}{request / their_request:>7.2f}"
           f"{walk:>12.0f}{their_walk:>12.0f}{walk / their_walk:>7.2f}{ours(PLACES):>9.0f}", flush=True)
 
@@ -328,17 +330,22 @@ def frame():
 
 def main():
     words = sys.argv[1:]
+    second = "reference"
+    if words[:1] == ["--against"]:
+        second, PROGRAMS[1], words = "other", words[1], words[2:]
+        THEIRS.update(names=NAMES, walk=WALK)
+    else:
+        build_reference()
     wanted = lambda what: not words or any(word in what for word in words)
-    build_reference()
-    print(f"{'':<40}{'ours':>12}{'reference':>12}{'ratio':>8}{'time':>8}{'':>16}{'a byte':>8}")
+    print(f"{'':<40}{'ours':>12}{second:>12}{'ratio':>8}{'time':>8}{'':>16}{'a byte':>8}")
     for what, model, case, base in workloads():
         if wanted(what):
             row(what, model, case, base)
-    print(f"\n{'without the verdict':<28}{'ours':>10}{'reference':>10}{'ratio':>7}{'our walk':>12}{'their walk':>12}{'ratio':>7}{'places':>9}")
+    print(f"\n{'without the verdict':<28}{'ours':>10}{second:>10}{'ratio':>7}{'our walk':>12}{'their walk':>12}{'ratio':>7}{'places':>9}")
     for what, cases in walks():
         if wanted(what):
             walk_row(what, cases)
-    print(f"\n{'':<40}{'one call':>12}{'64 signings':>12}{'share':>8}{'reference':>12}{'ratio':>8}")
+    print(f"\n{'':<40}{'one call':>12}{'64 signings':>12}{'share':>8}{second:>12}{'ratio':>8}")
     for what, model, packet, keys in suggestings():
         if wanted(what):
             suggest_row(what, model, packet, keys)
