@@ -48,11 +48,8 @@ fn bound_same<'a>(
     if slot.size == 0 {
         return false;
     }
-    lvs_names::compare(
-        lvs_bindings::text_from(packet, key, slot.start as usize),
-        c,
-        header,
-    ).equal
+    let text = lvs_bindings::text_from(packet, key, slot.start as usize);
+    lvs_names::compare(text, c, header).equal
 }
 
 // Whether a Tag is bound to a component of the same type.

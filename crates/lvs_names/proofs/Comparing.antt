@@ -4,7 +4,7 @@ use mathlib.Core.Path.{_≡_, refl, sym, ap, _∙_}
 use mathlib.Core.Bool.{Bool, true, false, false≢true, _&&_}
 use mathlib.Core.List.{List, [], _∷_, _++_, append-assoc, append-nil}
 use native.Mathlib.Omega.{arith}
-use borrow.Author.Tests.{eq-eqb, ne-eqb, eqb-true, leb-true}
+use borrow.Author.Tests.{eq-eqb, ne-eqb, leb-true}
 use lib.Dec.{eqb, leb}
 use lib.ListN.{length, take, drop, getD, length-append, length-drop, take-append-drop, drop-of-length-le}
 use lib.Seq.{take-at, take-take, take-all, length-take-le, drop-length, drop-cons, split-at, drop-drop, getD-drop, getD-take}
@@ -15,8 +15,8 @@ use Rattle.tlv.proofs.Bytes.{same-refl, same-true}
 use Rattle.tlv.proofs.Numbers.{number-size}
 use Rattle.tlv.proofs.Cuts.{Whole, element-whole}
 use Rattle.tlv.proofs.RoundTrip.{element-back, element-bytes, element-fits}
-use Rattle.lvs_spec.proofs.Grammar.{both}
-use Rattle.lvs_spec.proofs.Looked.{looked-other, looked-equal, looked-unequal}
+use Rattle.lvs_spec.proofs.Grammar.{both, and-false}
+use Rattle.lvs_spec.proofs.Looked.{same-itself, not-same, looked-other, looked-equal, looked-unequal}
 use Rattle.lvs_spec.specs.Model.{componentFrom, componentOf}
 use Rattle.lvs_spec.specs.Names.{same}
 use Rattle.lvs_names.specs.Contents.{Alone}
@@ -81,10 +81,6 @@ module _ {s c : List ℕ} {header : ℕ} (H : Headed s c header) where
   unfolding sameBytes
   by-two = rw (two-first s header (H .some) (omega (arith, H .within, H .long)), two-first c header (H .some) (H .within))
 
-  and-false : (t : Bool) → (t && false) ≡ false
-  and-false true = refl
-  and-false false = refl
-
   pub second-differs : (getD s 1 0 ≡ getD c 1 0 → ⊥) → false ≡ sameBytes (take header s) (take header c)
   second-differs n = sym (by-two ∙ rw (ne-eqb _ _ n) (and-false (eqb (getD s 0 0) (getD c 0 0))))
 
@@ -96,25 +92,6 @@ module _ {s c : List ℕ} {header : ℕ} (H : Headed s c header) where
   two-agree p q r = r ∙ sym (by-two ∙ rw (eq-eqb _ _ p, eq-eqb _ _ q))
 
 -- ---- what a header says
-
-same-itself : (e : Element) → same e e ≡ true
-unfolding same
-same-itself e = rw (eq-eqb (e .type) (e .type) refl, same-refl (e .inside))
-
-same-equal : (a b : Element) → same a b ≡ true → a ≡ b
-unfolding same
-same-equal a b h =
-    let t = both (eqb (a .type) (b .type)) (sameBytes (a .inside) (b .inside)) h in
-    let p : a .type ≡ b .type = eqb-true (a .type) (b .type) (t .0) in
-    let q : a .inside ≡ b .inside = same-true (a .inside) (b .inside) (t .1) in
-    λ i. record { type = p i; inside = q i }
-
-not-same : (a b : Element) → (a ≡ b → ⊥) → false ≡ same a b
-not-same a b n = go (same a b) refl
-  where
-    go : (t : Bool) → same a b ≡ t → false ≡ t
-    go true p = absurd (n (same-equal a b p))
-    go false p = refl
 
 -- type and length, of an element with an inside of n bytes
 headOf : ℕ → ℕ → List ℕ
@@ -189,7 +166,7 @@ module _ (s c : List ℕ) (bytes : Bytes s) (bytes-c : Bytes c) {header : ℕ} (
       let differ : componentOf s .type ≡ e .type → length (componentOf s .inside) ≡ length (e .inside) → ⊥ =
       λ t l. let a = alike t l in n (a .0) (a .1) in
       record {
-        equal = not-same (componentOf s) e (λ p. differ (ap (λ (x : Element). x .type) p) (ap (λ (x : Element). length (x .inside)) p));
+        equal = sym (not-same (componentOf s) e (λ p. differ (ap (λ (x : Element). x .type) p) (ap (λ (x : Element). length (x .inside)) p)));
         looked = sym (looked-other (componentOf s) e differ);
       }
 
@@ -274,4 +251,4 @@ module _ (s c : List ℕ) (bytes : Bytes s) (bytes-c : Bytes c) {header : ℕ} (
             let long-e = front-size c header left more high in
             let unequal = last .unequal more in
             let count = looked-unequal d e (between front) (between c) (drop left c) refl (long-d ∙ sym long-e) d-cut e-cut unequal in
-            of-d (record { equal = not-same d e (λ p. unequal (equal-bytes p)); looked = sym (count ∙ rw (length-drop left c)) })
+            of-d (record { equal = sym (not-same d e (λ p. unequal (equal-bytes p))); looked = sym (count ∙ rw (length-drop left c)) })

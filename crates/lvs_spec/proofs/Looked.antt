@@ -1,4 +1,5 @@
--- How many value bytes comparing two components looks at, in the three cases: another type or length, equal values, unequal ones. Assumes nothing.
+-- Two components compared: when they are equal, and how many value bytes are looked at, in the three cases of another type or length, equal values
+-- and unequal ones. Assumes nothing.
 use Prim.Native.Nat.{ℕ, _+_}
 use mathlib.Core.Path.{_≡_, refl, sym, ap, _∙_}
 use mathlib.Core.Bool.{Bool, true, false, _&&_}
@@ -9,9 +10,30 @@ use lib.Dec.{eqb}
 use lib.ListN.{length, length-append, length-reverse}
 use Rattle.tlv.specs.Bytes.{sameBytes}
 use Rattle.tlv.specs.Element.{Element}
-use Rattle.tlv.proofs.Bytes.{same-true}
+use Rattle.tlv.proofs.Bytes.{same-refl, same-true}
 use Rattle.lvs_spec.specs.Names.{same, untilUnequal, looked}
 use Rattle.lvs_spec.proofs.Grammar.{both}
+
+-- ---- equal components
+
+pub same-itself : (e : Element) → same e e ≡ true
+unfolding same
+same-itself e = rw (eq-eqb (e .type) (e .type) refl, same-refl (e .inside))
+
+same-equal : (a b : Element) → same a b ≡ true → a ≡ b
+unfolding same
+same-equal a b h =
+    let t = both (eqb (a .type) (b .type)) (sameBytes (a .inside) (b .inside)) h in
+    let p : a .type ≡ b .type = eqb-true (a .type) (b .type) (t .0) in
+    let q : a .inside ≡ b .inside = same-true (a .inside) (b .inside) (t .1) in
+    λ i. record { type = p i; inside = q i }
+
+pub not-same : (a b : Element) → (a ≡ b → ⊥) → same a b ≡ false
+not-same a b n = go (same a b) refl
+  where
+    go : (t : Bool) → same a b ≡ t → t ≡ false
+    go true p = absurd (n (same-equal a b p))
+    go false p = refl
 
 -- ---- from the front
 
@@ -48,12 +70,10 @@ module _ (a b : Element) where
   from-back t l = rw (eq-eqb (a .type) (b .type) t, eq-eqb (length (a .inside)) (length (b .inside)) l)
 
   pub looked-equal : same a b ≡ true → looked a b ≡ length (a .inside)
-  unfolding same
   looked-equal h =
-      let t = both (eqb (a .type) (b .type)) (sameBytes (a .inside) (b .inside)) h in
-      let e : a .inside ≡ b .inside = same-true (a .inside) (b .inside) (t .1) in
-      from-back (eqb-true _ _ (t .0)) (ap length e) ∙ ap (λ (l : List ℕ). untilUnequal (reverse (a .inside)) (reverse l)) (sym e) ∙
-      all-equal (reverse (a .inside)) ∙ length-reverse (a .inside)
+      let e : a .inside ≡ b .inside = ap (λ (x : Element). x .inside) (same-equal a b h) in
+      from-back (ap (λ (x : Element). x .type) (same-equal a b h)) (ap length e) ∙
+      ap (λ (l : List ℕ). untilUnequal (reverse (a .inside)) (reverse l)) (sym e) ∙ all-equal (reverse (a .inside)) ∙ length-reverse (a .inside)
 
   -- `zs` are the equal ones at the back
   pub looked-unequal : (xs ys zs : List ℕ) {x y : ℕ} → a .type ≡ b .type → length xs ≡ length ys → a .inside ≡ xs ++ x ∷ zs → b .inside ≡ ys ++ y ∷ zs

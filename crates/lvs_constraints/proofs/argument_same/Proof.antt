@@ -2,25 +2,30 @@
 use borrow.Author.Needs.{needs}
 use mathlib.Core.Path.{sym, subst, _∙_}
 use Rattle.lvs_spec.specs.Walk.{argumentIn}
-use Rattle.lvs_constraints.specs.Arguments.{ArgumentAt}
+use Rattle.lvs_constraints.specs.Arguments.{ValueAt, ArgumentAt}
 use Rattle.lvs_constraints.proofs.Bound.{bound-argument}
 use Rattle.lvs_constraints.proofs.argument_same.Statement.{statement}
 use Rattle.lvs_constraints.proofs.argument_same.Tie as tie
 
+-- where the function began, and the Value that the argument holds
+abbrev began : tie.After-argument-of → tie.Start
+began r = r .before .before .before .before .before
+
+value : (c : tie.After-start) → ValueAt (began (c .before .before) .args .s .now) (c .start .given .0 .0) (c .start .given .0 .1 .0)
+value c = subst (ArgumentAt _) (c .start .given .1) (c .before .before .argument-of .ensures)
+
 sub-compare : tie.Need-sub-compare
-sub-compare c = subst (ArgumentAt _) (c .before .start .given .1) (c .before .before .before .argument-of .ensures) .order
+sub-compare c = value (c .before) .order
 
 part-compare-start : tie.Need-part-compare-start
-part-compare-start c = subst (ArgumentAt _) (c .before .start .given .1) (c .before .before .before .argument-of .ensures) .order
+part-compare-start c = value (c .before) .order
 
 part-compare-end : tie.Need-part-compare-end
-part-compare-end c = subst (ArgumentAt _) (c .before .start .given .1) (c .before .before .before .argument-of .ensures) .within
+part-compare-end c = value (c .before) .within
 
 returns : tie.Need-returns
 unfolding argumentIn
-returns c =
-    let value = c .before .before .before in
-    c .compare .ensures .equal ∙ sym (rw (subst (ArgumentAt _) (value .start .given .1) (value .before .before .argument-of .ensures) .is))
+returns c = c .compare .ensures .equal ∙ sym (rw (value (c .before .before .before) .is))
 
 returns-2 : tie.Need-returns-2
 returns-2 c =

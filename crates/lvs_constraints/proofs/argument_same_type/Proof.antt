@@ -2,24 +2,29 @@
 use borrow.Author.Needs.{needs}
 use mathlib.Core.Path.{sym, subst, _∙_}
 use Rattle.lvs_spec.specs.Walk.{argumentIn}
-use Rattle.lvs_constraints.specs.Arguments.{ArgumentAt}
+use Rattle.lvs_constraints.specs.Arguments.{ValueAt, ArgumentAt}
 use Rattle.lvs_constraints.proofs.argument_same_type.Statement.{statement}
 use Rattle.lvs_constraints.proofs.argument_same_type.Tie as tie
 
+-- where the function began, and the Value that the argument holds
+abbrev began : tie.After-argument-of → tie.Start
+began r = r .before .before .before .before .before
+
+value : (c : tie.After-start) → ValueAt (began (c .before .before) .args .s .now) (c .start .given .0 .0) (c .start .given .0 .1 .0)
+value c = subst (ArgumentAt _) (c .start .given .1) (c .before .before .argument-of .ensures)
+
 sub-same-type : tie.Need-sub-same-type
-sub-same-type c = subst (ArgumentAt _) (c .before .start .given .1) (c .before .before .before .argument-of .ensures) .order
+sub-same-type c = value (c .before) .order
 
 part-same-type-start : tie.Need-part-same-type-start
-part-same-type-start c = subst (ArgumentAt _) (c .before .start .given .1) (c .before .before .before .argument-of .ensures) .order
+part-same-type-start c = value (c .before) .order
 
 part-same-type-end : tie.Need-part-same-type-end
-part-same-type-end c = subst (ArgumentAt _) (c .before .start .given .1) (c .before .before .before .argument-of .ensures) .within
+part-same-type-end c = value (c .before) .within
 
 returns : tie.Need-returns
 unfolding argumentIn
-returns c =
-    let value = c .before .before .before in
-    c .same-type .ensures ∙ sym (rw (subst (ArgumentAt _) (value .start .given .1) (value .before .before .argument-of .ensures) .is))
+returns c = c .same-type .ensures ∙ sym (rw (value (c .before .before .before) .is))
 
 returns-2 : tie.Need-returns-2
 returns-2 c =
