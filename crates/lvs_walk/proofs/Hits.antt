@@ -4,10 +4,10 @@ use mathlib.Core.Path.{_≡_, refl, sym, ap, subst, _∙_}
 use mathlib.Core.Bool.{Bool, true, false}
 use mathlib.Core.List.{List, [], _∷_, _++_, append-nil}
 use mathlib.Core.Option.{Option, none, some}
-use Rattle.tlv.specs.Lists.{each, onward, first, when}
+use Rattle.tlv.specs.Lists.{each, onward, first, when, orElse}
 use Rattle.lvs_spec.specs.Model.{Model, Edge, edges, nodeAt}
 use Rattle.lvs_spec.specs.Walk.{Binding, Match, Event, looked, found, continue, foundIn, answers, begin, cross, trace, keyTrace, lists}
-use Rattle.lvs_spec.proofs.Lists.{orElse, first-append, each-append, each-each}
+use Rattle.lvs_spec.proofs.Lists.{first-append, each-append, each-each}
 use Rattle.lvs_spec.proofs.Trace.{each-same}
 use Rattle.lvs_bindings.specs.Slots.{Room, bindingsOf}
 use Rattle.lvs_walk.specs.Search.{Hit, listed, worth, hits, firstFound, rowFor, foundIf, Started, hitOf, First}

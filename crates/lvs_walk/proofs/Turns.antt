@@ -4,11 +4,11 @@ use mathlib.Core.Path.{_≡_, refl, sym, ap, subst, _∙_}
 use mathlib.Core.Bool.{Bool}
 use mathlib.Core.List.{List, [], _∷_}
 use lib.ListN.{length, take, drop}
-use Rattle.tlv.specs.Lists.{each, onward}
+use Rattle.tlv.specs.Lists.{each, onward, orElse}
 use Rattle.lvs_spec.specs.Model.{Edge, edges, nodeAt, modelOf}
 use Rattle.lvs_spec.specs.Walk.{Binding, Bindings, Match, Event, cross}
 use Rattle.lvs_spec.specs.Demands.{OnlyNamed}
-use Rattle.lvs_spec.proofs.Lists.{clash, orElse}
+use Rattle.lvs_spec.proofs.Lists.{clash}
 use Rattle.lvs_bindings.specs.Slots.{Room, bindingAt, bindingsOf, clearedWords, without}
 use Rattle.lvs_bindings.proofs.Slots.{cleared-long, cleared-bindings}
 use Rattle.lvs_edges.specs.Edges.{edgeOf, fileEdges, EdgeAt, EdgeFrom}
