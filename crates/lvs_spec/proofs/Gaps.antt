@@ -2,13 +2,13 @@
 -- with 1 to 3; the first and the last of them determine `bare`. Assumes nothing.
 use Prim.Native.Nat.{ℕ, zero, suc, _≤_, _<_, _^_}
 use mathlib.Core.Path.{_≡_, refl, sym, ap, _∙_, subst}
-use mathlib.Core.Bool.{Bool, true, false, false≢true}
+use mathlib.Core.Bool.{true, false, false≢true}
 use mathlib.Core.List.{List, _∷_, _++_, List·Memᴰ, List·Memᴰ·head, List·Memᴰ·tail}
 use mathlib.Core.Option.{some, Option·some-injective}
 use native.Mathlib.Omega.{arith}
 use lib.ListN.{length}
 use Rattle.tlv.specs.Bytes.{Bytes}
-use Rattle.tlv.specs.Element.{Element, typeInRange, done, nexts, split, encode, Each}
+use Rattle.tlv.specs.Element.{Element, typeInRange, split, encode, Each}
 use Rattle.tlv.proofs.RoundTrip.{cuts-encoded, split-nexts, nexts-split}
 use Rattle.tlv.proofs.Sizes.{split-types, all-in-range}
 use Rattle.lvs_spec.specs.Limits.{maxModelBytes}
@@ -18,10 +18,11 @@ use Rattle.lvs_spec.specs.Model.{Model}
 use Rattle.lvs_spec.specs.Verdict.{describes, reading}
 use Rattle.lvs_spec.specs.Gaps.{holding, bareBy, bare, Inserted, here, deeper, Holds, among, within, NoOptional}
 use Rattle.lvs_spec.proofs.Lists.{clash, each-append}
-use Rattle.lvs_spec.proofs.Grammar.{known-in-range, Ordered, stop, skip, take}
+use Rattle.lvs_spec.proofs.Grammar.{known-in-range, Ordered, stop, skip, take, ordered-split, ordered-past, entered}
 use Rattle.lvs_spec.proofs.Bare.{Good, Small, bares, bare-optional, bare-leaf, bare-container, bare-is, held, bare-cuts}
-use Rattle.lvs_spec.proofs.Critical.{TypeOk, nexts-append, each-insert, each-replace, inside-shorter, spoiled, spoiled-inside}
-use Rattle.lvs_spec.proofs.Demand3.{passed, good}
+use Rattle.lvs_spec.proofs.Critical.{TypeOk, each-insert, each-replace, inside-shorter}
+use Rattle.lvs_spec.proofs.Reading.{passed}
+use Rattle.lvs_spec.proofs.Demand3.{good}
 
 each-at : (P : Element → Type 0) {x : Element} {es : List Element} → Each P es → List·Memᴰ x es → P x
 each-at P h (List·Memᴰ·head e) = subst P (sym e) (h .0)
@@ -135,27 +136,20 @@ module _ (x : Element) (x-optional : meaning (x .type) ≡ optional) (x-typed : 
       ap encode
       (each-append _ before (x ∷ after) ∙ rw (bare-optional (bareBy n) x x-optional) (sym (each-append _ before after))) ∙
       sym (bare-is n b (before ++ after) (nexts-split b _ s))
-  goes-again (suc n) k (deeper {b} {inside} before after e j s q i) l g = go (wellFormedBy n j (e .inside)) refl (goes-again n j i)
-    where
-      e′ : Element
-      e′ = holding e inside
-
-      go : (t : Bool) → wellFormedBy n j (e .inside) ≡ t
-          → (length inside < 2 ^ 64 → wellFormedBy n j (e .inside) ≡ true → bareBy n inside ≡ bareBy n (e .inside))
-          → bareBy (suc n) (encode (before ++ e′ ∷ after)) ≡ bareBy (suc n) b
-      go false f rec =
-          let bad = spoiled (wellFormedBy n) k before _ (spoiled-inside (wellFormedBy n) k e (nexts after done) j q f) (order k) in
-          absurd (false≢true (sym bad ∙ rw (nexts-split b _ s, nexts-append before (e ∷ after) done) at g))
-      go true f rec =
-          let es : List Element = before ++ e′ ∷ after in
-          let types = each-replace TypeOk before after e e′ (known-in-range (e .type) (container j) q) (split-types b _ s) in
-          let cut = cuts-encoded es (all-in-range es types l) in
-          let shorter = inside-shorter before after e′ in
-          bare-is n (encode es) es cut ∙
-          ap encode
-          (each-append _ before (e′ ∷ after) ∙
-          rw (bare-container (bareBy n) e′ j q, rec (omega arith) f) (sym (each-append _ before (e ∷ after) ∙ rw (bare-container (bareBy n) e j q)))) ∙
-          sym (bare-is n b (before ++ e ∷ after) (nexts-split b _ s))
+  goes-again (suc n) k (deeper {b} {inside} before after e j s q i) l g =
+      let e′ : Element = holding e inside in
+      let es : List Element = before ++ e′ ∷ after in
+      let types = each-replace TypeOk before after e e′ (known-in-range (e .type) (container j) q) (split-types b _ s) in
+      let cut = cuts-encoded es (all-in-range es types l) in
+      let shorter = inside-shorter before after e′ in
+      let ordered = ordered-past (wellFormedBy n) k before (ordered-split (wellFormedBy n) k (order k) b s g) in
+      let formed = entered (wellFormedBy n) k j q (ordered .1) .formed in
+      bare-is n (encode es) es cut ∙
+      ap encode
+      (each-append _ before (e′ ∷ after) ∙
+      rw (bare-container (bareBy n) e′ j q, goes-again n j i (omega arith) formed)
+      (sym (each-append _ before (e ∷ after) ∙ rw (bare-container (bareBy n) e j q)))) ∙
+      sym (bare-is n b (before ++ e ∷ after) (nexts-split b _ s))
 
 -- ---- of a model
 

@@ -24,7 +24,8 @@ use Rattle.lvs_spec.specs.Demands.{Alike}
 use Rattle.lvs_spec.proofs.Grammar.{optional-next, critical-next, known-next, goesOn, known-in-range}
 use Rattle.lvs_spec.proofs.Version.{first-optional, first-critical, first-known, container-not-version}
 use Rattle.lvs_spec.proofs.Critical.{TypeOk, nexts-append, each-insert, each-replace, inside-shorter}
-use Rattle.lvs_spec.proofs.Demand3.{Passed, passed, reads, bare-alike}
+use Rattle.lvs_spec.proofs.Reading.{Passed, passed, reads}
+use Rattle.lvs_spec.proofs.Demand3.{bare-alike}
 use Rattle.lvs_spec.proofs.Gaps.{inserted-bare}
 
 -- ---- how the new bytes are cut

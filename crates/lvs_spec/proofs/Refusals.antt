@@ -1,19 +1,24 @@
 -- Which refusal numbers a model and a name can have. Assumes nothing.
 use Prim.Native.Nat.{ℕ, _+_}
-use mathlib.Core.Path.{_≡_, refl, sym, _∙_, subst}
-use mathlib.Core.Bool.{Bool, true, false}
+use mathlib.Core.Path.{_≡_, refl, sym, ap, _∙_, subst}
+use mathlib.Core.Bool.{Bool, true, false, false≢true}
 use mathlib.Core.List.{List, [], _∷_, _++_, map, List·Memᴰ, List·Memᴰ·head, List·Memᴰ·tail, Memᴰ·append-left, Memᴰ·append-right}
 use mathlib.Core.Option.{Option, none, some}
-use lib.Dec.{ltb}
+use native.Mathlib.Omega.{arith}
+use borrow.Author.Tests.{ltb-false}
+use lib.Dec.{leb, ltb}
 use lib.ListN.{length}
-use Rattle.lvs_spec.specs.Limits.{maxNameBytes, maxComponents}
-use Rattle.lvs_spec.specs.WellFormed.{tooLong, otherVersion, wellFormed}
+use Rattle.tlv.specs.Lists.{all}
+use Rattle.lvs_spec.specs.Limits.{maxModelBytes, maxNameBytes, maxComponents}
+use Rattle.lvs_spec.specs.WellFormed.{tooLong, otherVersion}
+use Rattle.lvs_spec.specs.Places.{faultPlace}
 use Rattle.lvs_spec.specs.Model.{Model, modelOf}
 use Rattle.lvs_spec.specs.Verdict.{Verdict, Test, fault, rules, decide, judge, reading, verdict}
 use Rattle.lvs_spec.specs.Names.{Component, badName, goodName, nameOf, rowReading, nameReading, packetName, keyName}
 use Rattle.lvs_spec.specs.Answers.{Refusal, unusable, judged, usableModel}
-use Rattle.lvs_spec.specs.Demands.{modelRefusals, packetRefusals, keyRefusals}
+use Rattle.lvs_spec.specs.Demands.{modelRefusals, packetRefusals, keyRefusals, MalformedAt}
 use Rattle.lvs_spec.proofs.Lists.{clash}
+use Rattle.lvs_spec.proofs.Grammar.{both}
 use Rattle.lvs_spec.proofs.Usable.{usable-verdict}
 
 -- a rule of the table has its number
@@ -35,23 +40,50 @@ decide-number m (x ∷ rs) {r} {i} h = go (fault m (x .1)) refl (λ h. decide-nu
 -- a model is refused with 1 to 12
 pub verdict-number : (b : List ℕ) {r i : ℕ} → verdict b ≡ Verdict.refused r i → List·Memᴰ r modelRefusals
 unfolding verdict reading judge rules
-verdict-number b {r} {i} h = go (tooLong b) (otherVersion b) (wellFormed b) refl refl refl
+verdict-number b {r} {i} h = go (tooLong b) (otherVersion b) (faultPlace b) refl refl refl
   where
-    go : (x y z : Bool) → tooLong b ≡ x → otherVersion b ≡ y → wellFormed b ≡ z → List·Memᴰ r modelRefusals
-    go true y z p q s =
+    go : (x y : Bool) (o : Option ℕ) → tooLong b ≡ x → otherVersion b ≡ y → faultPlace b ≡ o → List·Memᴰ r modelRefusals
+    go true y o p q s =
         let h′ : Verdict.refused 1 0 ≡ Verdict.refused r i = rw (p, verdict, reading) at h in
         let e : r ≡ 1 = cc in
         List·Memᴰ·head e
-    go false true z p q s =
+    go false true o p q s =
         let h′ : Verdict.refused 3 0 ≡ Verdict.refused r i = rw (p, q, verdict, reading) at h in
         let e : r ≡ 3 = cc in
         List·Memᴰ·tail (List·Memᴰ·tail (List·Memᴰ·head e))
-    go false false false p q s =
-        let h′ : Verdict.refused 2 0 ≡ Verdict.refused r i = rw (p, q, s, verdict, reading) at h in
+    go false false (some j) p q s =
+        let h′ : Verdict.refused 2 j ≡ Verdict.refused r i = rw (p, q, s, verdict, reading) at h in
         let e : r ≡ 2 = cc in
         List·Memᴰ·tail (List·Memᴰ·head e)
-    go false false true p q s =
+    go false false none p q s =
         List·Memᴰ·tail (List·Memᴰ·tail (List·Memᴰ·tail (decide-number (modelOf b) (rules (modelOf b)) (rw (p, q, s, verdict, reading) at h))))
+
+all-in : (f : ℕ → Bool) {x : ℕ} {xs : List ℕ} → List·Memᴰ x xs → all f xs ≡ true → f x ≡ true
+all-in f (List·Memᴰ·head {x = y} {xs = xs} e) h = ap f e ∙ both (f y) (all f xs) h .0
+all-in f (List·Memᴰ·tail {x = y} {xs = xs} i) h = all-in f i (both (f y) (all f xs) h .1)
+
+-- with 2 only where it is malformed, at that place
+pub refused-malformed : (b : List ℕ) {p : ℕ} → verdict b ≡ Verdict.refused 2 p → MalformedAt b p
+unfolding verdict reading tooLong judge rules
+refused-malformed b {p} h = go (tooLong b) (otherVersion b) (faultPlace b) refl refl refl
+  where
+    go : (x y : Bool) (o : Option ℕ) → tooLong b ≡ x → otherVersion b ≡ y → faultPlace b ≡ o → MalformedAt b p
+    go true y o t v f =
+        let h′ : Verdict.refused 1 0 ≡ Verdict.refused 2 p = rw (t, verdict, reading) at h in
+        let e : _≡_ {A = ℕ} 1 2 = cc in
+        absurd (omega arith)
+    go false true o t v f =
+        let h′ : Verdict.refused 3 0 ≡ Verdict.refused 2 p = rw (t, v, verdict, reading) at h in
+        let e : _≡_ {A = ℕ} 3 2 = cc in
+        absurd (omega arith)
+    go false false (some i) t v f =
+        let h′ : Verdict.refused 2 i ≡ Verdict.refused 2 p = rw (t, v, f, verdict, reading) at h in
+        let e : i ≡ p = cc in
+        record { short = ltb-false maxModelBytes (length b) t; this = v; place = f ∙ ap some e }
+    go false false none t v f = absurd (no-two (decide-number (modelOf b) (rules (modelOf b)) (rw (t, v, f, verdict, reading) at h)))
+      where
+        no-two : List·Memᴰ {A = ℕ} 2 (4 ∷ 5 ∷ 6 ∷ 7 ∷ 8 ∷ 9 ∷ 10 ∷ 11 ∷ 12 ∷ []) → ⊥
+        no-two i = false≢true (all-in (leb 3) i refl)
 
 -- and so it is by the other calls
 pub unusable-number : (b : List ℕ) {x : Refusal} → usableModel b ≡ unusable x → List·Memᴰ (x .number) modelRefusals
