@@ -1,8 +1,9 @@
 -- Leaves: what each test on the bytes says of the definition. Assumes nothing.
 use Prim.Native.Nat.{ℕ, _+_, _-_, _≤_, _<_}
 use mathlib.Core.Path.{_≡_, refl, sym, ap, subst, _∙_}
-use mathlib.Core.Bool.{Bool, true, false, _&&_}
+use mathlib.Core.Bool.{Bool, true, false, cond, _&&_}
 use mathlib.Core.List.{List, [], _∷_}
+use mathlib.Core.Option.{some}
 use native.Mathlib.Numerals.{add-one}
 use native.Mathlib.Omega.{arith}
 use borrow.Author.Tests.{eqb-true, eqb-false, eq-eqb, ne-eqb}
@@ -19,7 +20,8 @@ use Rattle.tlv.specs.declared.Read.the-variants.{Found, End, Malformed}
 use Rattle.tlv.proofs.Cuts.{Whole, element-whole}
 use Rattle.tlv.specs.Lists.{all}
 use Rattle.lvs_spec.specs.Limits.{maxComponentType}
-use Rattle.lvs_spec.specs.Leaves.{isComponent, oneComponent, letter, letterOrDigit, identifier, marked}
+use Rattle.lvs_spec.specs.Places.{must, from, valueFault}
+use Rattle.lvs_spec.specs.Leaves.{isComponent, letter, letterOrDigit, identifier, marked}
 
 -- ---- integers
 
@@ -41,12 +43,6 @@ sized s e f = subst (Sized s) (sym e ∙ f) (sized-of s)
 
 -- ---- one component
 
--- what each answer at the first place says of a Value
-abbrev Valued : List ℕ → Read → Type 0
-Valued s (Found t a e n) = oneComponent (element s) ≡ (leb t maxComponentType && eqb e (length s))
-Valued s End = oneComponent (element s) ≡ false
-Valued s Malformed = oneComponent (element s) ≡ false
-
 behind : (s : List ℕ) (h : ℕ) (e : Element) (rest : List ℕ) → Whole s h e rest → eqb (length rest) 0 ≡ eqb (0 + h + length (e .inside)) (length s)
 behind s h e rest w =
     let l : length rest ≡ length s - (h + w .size) = ap length (w .rest-is) ∙ length-drop (h + w .size) s in
@@ -57,17 +53,37 @@ behind s h e rest w =
     go l false q =
         q ∙ sym (ne-eqb (0 + h + length (e .inside)) (length s) (λ (x : 0 + h + length (e .inside) ≡ length s). eqb-false (length rest) 0 q (omega arith)))
 
-valued-at : (s : List ℕ) → Valued s (readAt s 0)
-unfolding readAt oneComponent isComponent
-valued-at s = go (element s) refl
-  where
-    go : (f : First) → element s ≡ f → Valued s (readFrom 0 f)
-    go end p = rw p
-    go malformed p = rw p
-    go (first h e rest) p = rw p (ap (λ (b : Bool). leb (e .type) maxComponentType && b) (behind s h e rest (element-whole s h e rest p)))
+-- what each answer at the first place says of a Value whose inside starts at a place
+abbrev Valued : List ℕ → ℕ → Read → Type 0
+Valued s start (Found t a e n) = from start (valueFault (element s)) ≡ cond (leb t maxComponentType) (must (eqb e (length s)) (start + e)) (some start)
+Valued s start End = from start (valueFault (element s)) ≡ some start
+Valued s start Malformed = from start (valueFault (element s)) ≡ some start
 
-pub valued : (s : List ℕ) {r a : Read} → r ≡ readAt s 0 → r ≡ a → Valued s a
-valued s e f = subst (Valued s) (sym e ∙ f) (valued-at s)
+must-from : (t : Bool) (start p : ℕ) → from start (must t p) ≡ must t (start + p)
+must-from true start p = refl
+must-from false start p = refl
+
+valued-at : (s : List ℕ) (start : ℕ) → Valued s start (readAt s 0)
+unfolding readAt valueFault isComponent
+valued-at s start = go (element s) refl
+  where
+    first-place : from start (some 0) ≡ some start
+    first-place = let e : start + 0 ≡ start = omega arith in rw e
+
+    test : (t u : Bool) (p : ℕ) → from start (cond t (must u p) (some 0)) ≡ cond t (must u (start + p)) (some start)
+    test true u p = must-from u start p
+    test false u p = first-place
+
+    go : (f : First) → element s ≡ f → Valued s start (readFrom 0 f)
+    go end p = rw p first-place
+    go malformed p = rw p first-place
+    go (first h e rest) p =
+        let past : h + length (e .inside) ≡ 0 + h + length (e .inside) = omega arith in
+        rw (p, behind s h e rest (element-whole s h e rest p), past)
+        (test (leb (e .type) maxComponentType) (eqb (0 + h + length (e .inside)) (length s)) (0 + h + length (e .inside)))
+
+pub valued : (s : List ℕ) (start : ℕ) {r a : Read} → r ≡ readAt s 0 → r ≡ a → Valued s start a
+valued s start e f = subst (Valued s start) (sym e ∙ f) (valued-at s start)
 
 -- ---- bytes in a row
 

@@ -1,22 +1,24 @@
 -- One turn of each reading loop: what stands at a place, and what the answer from there on is. Assumes nothing.
-use Prim.Native.Nat.{ℕ, zero, suc, _-_}
+use Prim.Native.Nat.{ℕ, zero, suc, _+_, _-_, _≤_}
 use mathlib.Core.Path.{_≡_, refl, sym, ap, _∙_}
 use mathlib.Core.Bool.{Bool, true, false, false≢true}
 use mathlib.Core.List.{List}
-use mathlib.Core.Option.{some}
+use mathlib.Core.Option.{Option, none, some}
 use native.Mathlib.Omega.{arith}
-use lib.ListN.{take, drop}
+use lib.ListN.{length, take, drop, length-drop}
+use lib.Seq.{length-take-le}
 use Rattle.tlv.specs.Element.{Element, Cuts, next, cuts}
 use Rattle.tlv.specs.Answers.{readAt}
 use Rattle.tlv.specs.declared.Place.{Place}
 use Rattle.tlv.specs.declared.Read.{Read}
 use Rattle.tlv.specs.declared.Read.the-variants.{Found, End, Malformed}
-use Rattle.tlv.proofs.Cuts.{seen}
+use Rattle.tlv.proofs.Cuts.{seen, first-seen}
 use Rattle.tlv.specs.Lists.{is}
 use Rattle.lvs_spec.specs.Grammar as grammar
 use Rattle.lvs_spec.specs.Grammar.{Kind, meaning, order, step, final}
-use Rattle.lvs_spec.specs.WellFormed.{insideOk, inOrder, wellFormedBy, firstKnown, isOtherVersion, otherVersion}
-use Rattle.lvs_spec.proofs.Grammar.{optional-next, critical-next, known-next, goesOn}
+use Rattle.lvs_spec.specs.WellFormed.{firstKnown, isOtherVersion, otherVersion}
+use Rattle.lvs_spec.specs.Places.{must, Placed, item, placed, insideFault, faultFrom, faultBy}
+use Rattle.lvs_spec.proofs.Places.{placed-end, placed-malformed, placed-next, fault-optional, fault-critical, faultKnown, fault-known}
 use Rattle.lvs_spec.proofs.Version.{first-optional, first-critical, first-known}
 use Rattle.lvs_grammar.specs.declared.order.Next.{Next}
 use Rattle.lvs_grammar.specs.declared.order.Next.the-variants.{Refused, State}
@@ -32,59 +34,71 @@ part s t a b = record { type = t; inside = take (b - a) (drop a s) }
 
 -- ---- the inside of a container
 
--- the answer from a place on, in a state of the order
-unfoldable pub formedFrom : ℕ → Kind → ℕ → List ℕ → ℕ → Bool
-formedFrom n k q s at = inOrder (wellFormedBy n) k (drop q (order k)) (cuts (drop at s))
+-- the first fault from a place on, in a state of the order
+unfoldable pub faultAfter : ℕ → Kind → ℕ → List ℕ → ℕ → Option ℕ
+faultAfter n k q s at = faultFrom (faultBy n) k (drop q (order k)) (placed at (drop at s))
 
-pub formed-none : (d : ℕ) (k : Kind) (s : List ℕ) → d ≡ 0 → false ≡ wellFormedBy d k s
-unfolding wellFormedBy
-formed-none d k s h = rw h
+pub fault-deep : (d : ℕ) (k : Kind) (s : List ℕ) → d ≡ 0 → some 0 ≡ faultBy d k s
+unfolding faultBy
+fault-deep d k s h = rw h
 
-pub formed-start : (d : ℕ) (k : Kind) (s : List ℕ) → (d ≡ 0 → ⊥) → wellFormedBy d k s ≡ formedFrom (d - 1) k 0 s 0
-unfolding formedFrom wellFormedBy
-formed-start zero k s h = absurd (h refl)
-formed-start (suc n) k s h = let e : suc n - 1 ≡ n = omega arith in rw e
+pub fault-start : (d : ℕ) (k : Kind) (s : List ℕ) → (d ≡ 0 → ⊥) → faultBy d k s ≡ faultAfter (d - 1) k 0 s 0
+unfolding faultAfter faultBy
+fault-start zero k s h = absurd (h refl)
+fault-start (suc n) k s h = let e : suc n - 1 ≡ n = omega arith in rw e
 
 module _ (n : ℕ) (k : Kind) (q : ℕ) (s : List ℕ) (at : ℕ) {r : Read} (e : r ≡ readAt s at) where
-  pub formed-end : {b : Bool} → r ≡ End → b ≡ final (drop q (order k)) → formedFrom n k q s at ≡ b
-  unfolding formedFrom inOrder
-  formed-end f g = rw (seen s at e f) (sym g)
+  pub fault-end : {b : Bool} → r ≡ End → b ≡ final (drop q (order k)) → faultAfter n k q s at ≡ must b at
+  unfolding faultAfter faultFrom
+  fault-end f g = rw (placed-end at (drop at s) (first-seen s at e f), g)
 
-  pub formed-broken : r ≡ Malformed → formedFrom n k q s at ≡ false
-  unfolding formedFrom inOrder
-  formed-broken f = rw (seen s at e f)
+  pub fault-broken : r ≡ Malformed → faultAfter n k q s at ≡ some at
+  unfolding faultAfter faultFrom
+  fault-broken f = rw (placed-malformed at (drop at s) (first-seen s at e f))
 
   module _ {t a b : ℕ} {p : Place} (f : r ≡ Found t a b p) (m : Meaning) (g : meaningOf m ≡ meaning t) where
-    cut : formedFrom n k q s at ≡ inOrder (wellFormedBy n) k (drop q (order k)) (next (part s t a b) (cuts (drop (p .at) s)))
-    unfolding formedFrom
-    cut = rw (seen s at e f .cut-is)
+    abbrev rest : Placed
+    rest = placed (p .at) (drop (p .at) s)
 
-    pub formed-optional : m ≡ Optional → formedFrom n k q s at ≡ formedFrom n k q s (p .at)
-    unfolding formedFrom
-    formed-optional h = cut ∙ optional-next (wellFormedBy n) k (drop q (order k)) (part s t a b) (cuts (drop (p .at) s)) (sym g ∙ ap meaningOf h)
+    cut : faultAfter n k q s at ≡ faultFrom (faultBy n) k (drop q (order k)) (item at a (part s t a b) rest)
+    unfolding faultAfter
+    cut =
+        let z = first-seen s at e f in
+        let x : at + (a - at) ≡ a = omega (arith, z .before) in
+        let l : length (take (b - a) (drop a s)) ≡ b - a = length-take-le (b - a) (drop a s) (rw (length-drop a s) (omega (arith, z .order, z .within))) in
+        let y : a + (b - a) ≡ b = omega (arith, z .order) in
+        rw (placed-next at (drop at s) (a - at) (part s t a b) (drop b s) (z .first-is), x, l, y, z .moved)
 
-    pub formed-critical : m ≡ Critical → formedFrom n k q s at ≡ false
-    formed-critical h = cut ∙ critical-next (wellFormedBy n) k (drop q (order k)) (part s t a b) (cuts (drop (p .at) s)) (sym g ∙ ap meaningOf h)
+    pub fault-skips : m ≡ Optional → faultAfter n k q s at ≡ faultAfter n k q s (p .at)
+    unfolding faultAfter
+    fault-skips h = cut ∙ fault-optional (faultBy n) k (drop q (order k)) at a (part s t a b) rest (sym g ∙ ap meaningOf h)
+
+    pub fault-at-critical : m ≡ Critical → faultAfter n k q s at ≡ some at
+    fault-at-critical h = cut ∙ fault-critical (faultBy n) k (drop q (order k)) at a (part s t a b) rest (sym g ∙ ap meaningOf h)
 
     module _ {w : knowns.Known} (h : m ≡ Known w) (x : Next) (i : leftBehind k x ≡ step (drop q (order k)) t) where
-      known : formedFrom n k q s at ≡ goesOn (wellFormedBy n) k (knownOf w) (part s t a b) (cuts (drop (p .at) s)) (leftBehind k x)
+      known : faultAfter n k q s at ≡ faultKnown (faultBy n) k (knownOf w) at a (part s t a b) rest (leftBehind k x)
       known =
           cut
-          ∙ known-next (wellFormedBy n) k (drop q (order k)) (part s t a b) (cuts (drop (p .at) s)) (knownOf w) (sym g ∙ ap meaningOf h)
-          ∙ ap (goesOn (wellFormedBy n) k (knownOf w) (part s t a b) (cuts (drop (p .at) s))) (sym i)
+          ∙ fault-known (faultBy n) k (drop q (order k)) at a (part s t a b) rest (knownOf w) (sym g ∙ ap meaningOf h)
+          ∙ ap (faultKnown (faultBy n) k (knownOf w) at a (part s t a b) rest) (sym i)
 
-      pub formed-refused : x ≡ Refused → formedFrom n k q s at ≡ false
-      unfolding goesOn
-      formed-refused j = known ∙ rw j
+      pub fault-refused : x ≡ Refused → faultAfter n k q s at ≡ some at
+      unfolding faultKnown
+      fault-refused j = known ∙ rw j
 
-      module _ {q′ : ℕ} (j : x ≡ State q′) {o : Bool} (l : o ≡ insideOk (wellFormedBy n) k (knownOf w) (take (b - a) (drop a s))) where
-        pub formed-bad : o ≡ false → formedFrom n k q s at ≡ false
-        unfolding goesOn
-        formed-bad v = known ∙ rw (j, goesOn, sym l ∙ v)
+      module _ {q′ : ℕ} (j : x ≡ State q′) {o : Option ℕ} (l : o ≡ insideFault (faultBy n) k (knownOf w) at a (take (b - a) (drop a s))) where
+        pub fault-inside : {y : ℕ} → o ≡ some y → faultAfter n k q s at ≡ some y
+        unfolding faultKnown
+        fault-inside v = known ∙ rw (j, faultKnown, sym l ∙ v)
 
-        pub formed-on : o ≡ true → formedFrom n k q s at ≡ formedFrom n k q′ s (p .at)
-        unfolding goesOn formedFrom
-        formed-on v = known ∙ rw (j, goesOn, sym l ∙ v)
+        pub fault-on : o ≡ none → faultAfter n k q s at ≡ faultAfter n k q′ s (p .at)
+        unfolding faultKnown faultAfter
+        fault-on v = known ∙ rw (j, faultKnown, sym l ∙ v)
+
+-- a part of what is short is short
+pub part-short : (s : List ℕ) (a b most : ℕ) → a ≤ b → b ≤ length s → length s ≤ most → a + length (take (b - a) (drop a s)) ≤ most
+part-short s a b most o w h = rw (length-take-le (b - a) (drop a s) (rw (length-drop a s) (omega arith))) (omega arith)
 
 -- ---- the first element that is not optional
 

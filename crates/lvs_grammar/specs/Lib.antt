@@ -1,3 +1,4 @@
 pub mod Types
 pub mod States
+pub mod Faults
 pub mod Answers

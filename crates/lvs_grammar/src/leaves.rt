@@ -1,41 +1,41 @@
 // Plain bytes that are well formed (docs/format.md, 3.3).
+use super::faults::Fault;
+use super::faults::must;
 use super::types::Kind;
 use super::types::Leaf;
 use tlv::IntegerRead;
 use tlv::Place;
 use tlv::Read;
+ghost use Prim.Native.Nat.{_+_, _≤_};
 ghost use mathlib.Core.Path.{_≡_};
 ghost use lib.ListN.{length};
 ghost use Rattle.tlv.specs.Number.{integerSize};
 ghost use Rattle.tlv.specs.Element.{element};
+ghost use Rattle.lvs_spec.specs.Limits.{maxModelBytes};
 ghost use Rattle.lvs_spec.specs.Leaves as leaves;
+ghost use Rattle.lvs_spec.specs.Places as places;
 ghost use Rattle.lvs_grammar.specs.Types.{kindOf, leafOf};
+ghost use Rattle.lvs_grammar.specs.Faults.{faultOf};
 
-// Whether the bytes are a leaf of this sort in a container of this kind.
-pub(crate) fn leaf_ok(s: &[u8], kind: Kind, leaf: Leaf) -> bool
-    ensures { λ r. ⌜ r ≡ leaves.leafIn (kindOf kind) (leafOf leaf) (now (s .entry)) ⌝ }
+// Where an element of plain bytes `s`, in a container of this kind, is at fault: where it starts, at `at`; only a Value holds an element, whose
+// faults lie in its inside, which starts at `start`.
+pub(crate) fn leaf_fault(s: &[u8], at: usize, start: usize, kind: Kind, leaf: Leaf) -> Fault
+    requires { ⌜ start + length (now s) ≤ maxModelBytes ⌝ }
+    ensures { λ r. ⌜ faultOf r ≡ places.leafFault (kindOf kind) (leafOf leaf) at start (now (s .entry)) ⌝ }
 {
     match leaf {
-        Leaf::Version => s.len() == 4,
-        Leaf::Integer => is_integer(s),
-        Leaf::Value => one_component(s),
-        Leaf::Text => is_text(s, kind),
-        Leaf::FunctionId => marked(s, b'$'),
-    }
-}
-
-fn is_integer(s: &[u8]) -> bool
-    ensures { λ r. ⌜ r ≡ integerSize (length (now (s .entry))) ⌝ }
-{
-    match tlv::integer_of(s) {
-        IntegerRead::Integer(_) => true,
-        IntegerRead::OtherSize => false,
+        Leaf::Version => must(s.len() == 4, at),
+        Leaf::Integer => must(is_integer(s), at),
+        Leaf::Value => value_fault(s, start),
+        Leaf::Text => must(is_text(s, kind), at),
+        Leaf::FunctionId => must(marked(s, b'$'), at),
     }
 }
 
 // One name component and nothing after it.
-fn one_component(s: &[u8]) -> bool
-    ensures { λ r. ⌜ r ≡ leaves.oneComponent (element (now (s .entry))) ⌝ }
+fn value_fault(s: &[u8], start: usize) -> Fault
+    requires { ⌜ start + length (now s) ≤ maxModelBytes ⌝ }
+    ensures { λ r. ⌜ faultOf r ≡ places.from start (places.valueFault (element (now (s .entry)))) ⌝ }
 {
     let first = Place { at: 0 };
     match first.element(s) {
@@ -46,12 +46,21 @@ fn one_component(s: &[u8]) -> bool
             next: _,
         } => {
             if lvs_spec::MAX_COMPONENT_TYPE < typ {
-                return false;
+                return Fault::At(start);
             }
-            end == s.len()
+            must(end == s.len(), start + end)
         }
-        Read::End => false,
-        Read::Malformed => false,
+        Read::End => Fault::At(start),
+        Read::Malformed => Fault::At(start),
+    }
+}
+
+fn is_integer(s: &[u8]) -> bool
+    ensures { λ r. ⌜ r ≡ integerSize (length (now (s .entry))) ⌝ }
+{
+    match tlv::integer_of(s) {
+        IntegerRead::Integer(_) => true,
+        IntegerRead::OtherSize => false,
     }
 }
 

@@ -1,23 +1,18 @@
 // Refusals 1 to 3 (docs/format.md, 5): whether a model is too long, of another version, malformed, or readable.
+mod faults;
 mod leaves;
 mod order;
 mod types;
 
-use leaves::leaf_ok;
+use faults::Fault;
+use faults::fault_in;
 use lvs_spec::MAX_MODEL_BYTES;
-use order::Next;
-use order::may_end;
-use order::next_state;
 use tlv::Place;
 use tlv::Read;
 use types::Kind;
-use types::Known;
-use types::Meaning;
 use types::is_optional;
-use types::meaning_of;
 ghost use mathlib.Core.Path.{_≡_};
-ghost use Rattle.lvs_spec.specs.WellFormed.{insideOk, wellFormedBy, isOtherVersion, otherVersion};
-ghost use Rattle.lvs_grammar.specs.Types.{kindOf, knownOf};
+ghost use Rattle.lvs_spec.specs.WellFormed.{isOtherVersion, otherVersion};
 ghost use Rattle.lvs_grammar.specs.Answers.{readingOf};
 
 // The only version that is read: 0x00011000.
@@ -25,11 +20,11 @@ const THIS_VERSION: [u8; 4] = [0x00, 0x01, 0x10, 0x00];
 // Model, Node, PatternEdge, Constraint, ConstraintOption, UserFnCall, UserFnArg: no deeper.
 const DEPTH: u8 = 7;
 
-// What the bytes of a model come to before rule 4.
+// What the bytes of a model come to before rule 4. If they are malformed, the place of the first fault.
 pub enum Reading {
     TooLong,
     OtherVersion,
-    Malformed,
+    Malformed(u32),
     Readable,
 }
 
@@ -43,10 +38,10 @@ pub fn check_grammar(model: &[u8]) -> Reading
     if other_version(model) {
         return Reading::OtherVersion;
     }
-    if well_formed(model, Kind::Model, DEPTH) {
-        return Reading::Readable;
+    match fault_in(model, Kind::Model, DEPTH) {
+        Fault::Nowhere => Reading::Readable,
+        Fault::At(place) => Reading::Malformed(place as u32),
     }
-    Reading::Malformed
 }
 
 // Whether the first element that is not optional is a Version of 4 bytes, but not this one.
@@ -83,53 +78,4 @@ fn is_other_version(typ: u32, inside: &[u8]) -> bool
         return false;
     }
     !tlv::same_bytes(inside, &THIS_VERSION)
-}
-
-// Whether the bytes are the whole inside of a container of this kind, read to at most this depth.
-fn well_formed(s: &[u8], kind: Kind, depth: u8) -> bool
-    ensures { λ r. ⌜ r ≡ wellFormedBy depth (kindOf kind) (now (s .entry)) ⌝ }
-{
-    if depth == 0 {
-        return false;
-    }
-    let below = depth - 1;
-    let mut place = Place { at: 0 };
-    let mut state: u8 = 0;
-    loop {
-        match place.element(s) {
-            Read::End => return may_end(kind, state),
-            Read::Malformed => return false,
-            Read::Found {
-                typ,
-                start,
-                end,
-                next,
-            } => {
-                place = next;
-                match meaning_of(typ) {
-                    Meaning::Optional => {}
-                    Meaning::Critical => return false,
-                    Meaning::Known(known) => {
-                        let Next::State(q) = next_state(kind, state, typ) else {
-                            return false;
-                        };
-                        if !inside_ok(&s[start..end], kind, known, below) {
-                            return false;
-                        }
-                        state = q;
-                    }
-                }
-            }
-        }
-    }
-}
-
-// Whether the bytes are the inside of an element that holds this, in a container of this kind.
-fn inside_ok(s: &[u8], kind: Kind, known: Known, depth: u8) -> bool
-    ensures { λ r. ⌜ r ≡ insideOk (wellFormedBy depth) (kindOf kind) (knownOf known) (now (s .entry)) ⌝ }
-{
-    match known {
-        Known::Plain(leaf) => leaf_ok(s, kind, leaf),
-        Known::Container(inner) => well_formed(s, inner, depth),
-    }
 }

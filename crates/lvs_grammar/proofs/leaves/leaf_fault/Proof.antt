@@ -1,41 +1,46 @@
--- `lvs_grammar::leaves::leaf_ok` meets its contract: each leaf has its test. Assumes nothing.
+-- `lvs_grammar::leaves::leaf_fault` meets its contract: each leaf has its test. Assumes nothing.
 use borrow.Author.Needs.{needs}
 use Rattle.lvs_spec.specs.Leaves.{leafIn}
-use Rattle.lvs_grammar.proofs.leaves.leaf_ok.Statement.{statement}
-use Rattle.lvs_grammar.proofs.leaves.leaf_ok.Tie as tie
+use Rattle.lvs_spec.specs.Places.{leafFault}
+use Rattle.lvs_grammar.proofs.leaves.leaf_fault.Statement.{statement}
+use Rattle.lvs_grammar.proofs.leaves.leaf_fault.Tie as tie
 
 returns : tie.Need-returns
-unfolding leafIn
-returns c = rw (c .enum-told .given .1)
+unfolding leafFault leafIn
+returns c = rw (c .before .enum-told .given .1) (c .must .ensures)
 
 returns-2 : tie.Need-returns-2
-unfolding leafIn
-returns-2 c = rw (c .before .enum-told2 .given .1) (c .is-integer .ensures)
+unfolding leafFault leafIn
+returns-2 c = rw (c .before .before .enum-told2 .given .1, ← (c .before .is-integer .ensures)) (c .must2 .ensures)
 
 returns-3 : tie.Need-returns-3
-unfolding leafIn
-returns-3 c = rw (c .before .enum-told3 .given .1) (c .one-component .ensures)
+unfolding leafFault
+returns-3 c = rw (c .before .enum-told3 .given .1) (c .value-fault .ensures)
 
 returns-4 : tie.Need-returns-4
-unfolding leafIn
-returns-4 c = rw (c .before .enum-told4 .given .1) (c .is-text .ensures)
+unfolding leafFault leafIn
+returns-4 c = rw (c .before .before .enum-told4 .given .1, ← (c .before .is-text .ensures)) (c .must3 .ensures)
 
 returns-5 : tie.Need-returns-5
-unfolding leafIn
-returns-5 c = rw (c .before .enum-told5 .given .1) (c .marked .ensures)
+unfolding leafFault leafIn
+returns-5 c = rw (c .before .before .enum-told5 .given .1, ← (c .before .marked .ensures)) (c .must4 .ensures)
 
-pub leaf-ok-spec : {M : Type 1} → statement M
-leaf-ok-spec =
+pub leaf-fault-spec : {M : Type 1} → statement M
+leaf-fault-spec =
     tie.close
     (tie.spec
     (λ c. search needs)
+    (λ c κs. search needs)
     (λ c. search needs)
+    (λ c κs. search needs)
     (λ c κs. search needs)
     (λ c. search needs)
     (λ c κs. search needs)
     (λ c. search needs)
     (λ c κs. search needs)
+    (λ c κs. search needs)
     (λ c. search needs)
+    (λ c κs. search needs)
     (λ c κs. search needs)
     returns
     returns-2

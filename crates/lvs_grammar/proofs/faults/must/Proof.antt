@@ -1,0 +1,12 @@
+-- `lvs_grammar::faults::must` meets its contract. Assumes nothing.
+use Rattle.lvs_grammar.proofs.faults.must.Statement.{statement}
+use Rattle.lvs_grammar.proofs.faults.must.Tie as tie
+
+returns : tie.Need-returns
+returns c = rw (c .if1 .taken)
+
+returns-2 : tie.Need-returns-2
+returns-2 c = rw (c .if1 .left)
+
+pub must-spec : {M : Type 1} → statement M
+must-spec = tie.close (tie.spec returns returns-2)
