@@ -1,17 +1,16 @@
 -- What the calls' definitions come to, by what the callees answered. Assumes nothing.
 use Prim.Native.Nat.{ℕ, _+_, _≤_, _<_}
-use mathlib.Core.Path.{_≡_, refl, sym, _∙_}
-use mathlib.Core.Bool.{Bool, true, false}
+use mathlib.Core.Path.{_≡_, sym, _∙_}
+use mathlib.Core.Bool.{Bool}
 use mathlib.Core.List.{List, _++_}
 use mathlib.Core.Option.{none, some}
 use native.Mathlib.Omega.{arith}
-use borrow.Author.Tests.{lt-ltb, le-ltb, ltb-false}
+use borrow.Author.Tests.{lt-ltb, le-ltb}
 use lib.Dec.{ltb}
 use lib.ListN.{length, drop, length-map}
 use Rattle.tlv.specs.Lists.{first, firstIndex}
-use Rattle.lvs_spec.specs.Limits.{maxModelBytes, maxCertificates, bindingWords}
+use Rattle.lvs_spec.specs.Limits.{maxCertificates, bindingWords}
 use Rattle.lvs_spec.specs.Types as type
-use Rattle.lvs_spec.specs.WellFormed.{tooLong, otherVersion, wellFormed}
 use Rattle.lvs_spec.specs.Model.{Model, nodeOf, modelOf}
 use Rattle.tlv.specs.Fields.{insides}
 use Rattle.lvs_spec.specs.Verdict.{Verdict, unreadable, describes, reading, judge, verdict}
@@ -21,9 +20,9 @@ use Rattle.lvs_spec.specs.Answers.{MatchAnswer, plain, words, boundCount, match
 use Rattle.lvs_spec.specs.Answers.{SignAnswer, pairFound, signNames, signIn, signAnswer}
 use Rattle.lvs_spec.specs.Certificates.{Entry, entries, ListReading, fitEntries, listReading}
 use Rattle.lvs_spec.specs.Certificates.{SuggestAnswer, suggestFrom, suggestName, suggestIn, suggestAnswer}
+use Rattle.lvs_spec.proofs.Reading.{accepted-passed, accepted-judged}
 use Rattle.lvs_spec.proofs.Rules.{judge-few}
 use Rattle.lvs_spec.proofs.Usable.{accepted-usable, refused-unusable}
-use Rattle.lvs_spec.proofs.Lists.{clash}
 use Rattle.lvs_spec.proofs.Indices.{index-below}
 use Rattle.lvs_spec.proofs.Signing.{signs-first}
 use Rattle.lvs_spec.proofs.Certificates.{reading-fit}
@@ -32,7 +31,7 @@ use Rattle.lvs_edges.proofs.Ordered.{well-ordered}
 
 -- ---- the verdict
 
-pub verdict-unreadable : (b : List ℕ) {r : ℕ} → reading b ≡ unreadable r → verdict b ≡ Verdict.refused r 0
+pub verdict-unreadable : (b : List ℕ) {r i : ℕ} → reading b ≡ unreadable r i → verdict b ≡ Verdict.refused r i
 unfolding verdict
 verdict-unreadable b e = rw (e, verdict)
 
@@ -40,33 +39,14 @@ pub verdict-judged : (b : List ℕ) {m : Model} {v : Verdict} → reading b ≡ 
 unfolding verdict
 verdict-judged b e f = f ∙ sym (rw (e, verdict))
 
--- what an accepted verdict says of the bytes
-record Accepted (b : List ℕ) (n : ℕ) : Type 0 where
-  short : tooLong b ≡ false
-  well-formed : wellFormed b ≡ true
-  judged : judge (modelOf b) ≡ Verdict.accepted n
-
-accepted-is : (b : List ℕ) {n : ℕ} → verdict b ≡ Verdict.accepted n → Accepted b n
-unfolding verdict reading
-accepted-is b {n} h = go (tooLong b) (otherVersion b) (wellFormed b) refl refl refl
-  where
-    not-read : (r : ℕ) → reading b ≡ unreadable r → Accepted b n
-    not-read r e = let h′ : Verdict.refused r 0 ≡ Verdict.accepted n = sym (verdict-unreadable b e) ∙ h in clash (cc)
-
-    go : (x y z : Bool) → tooLong b ≡ x → otherVersion b ≡ y → wellFormed b ≡ z → Accepted b n
-    go true y z p q r = not-read 1 (rw (p, reading))
-    go false true z p q r = not-read 3 (rw (p, q, reading))
-    go false false false p q r = not-read 2 (rw (p, q, r, reading))
-    go false false true p q r = record { short = p; well-formed = r; judged = verdict-judged b (rw (p, q, r, reading)) refl ∙ h }
-
 pub walkable : (b : List ℕ) {n : ℕ} → verdict b ≡ Verdict.accepted n → Walkable b
-unfolding modelOf tooLong
+unfolding modelOf
 walkable b h =
-    let a = accepted-is b h in
+    let p = accepted-passed b h in
     record {
-      short = ltb-false maxModelBytes (length b) (a .short);
-      few = omega (arith, judge-few (modelOf b) (a .judged), length-map (insides type.Node b) nodeOf);
-      ordered = well-ordered b (a .well-formed);
+      short = p .short;
+      few = omega (arith, judge-few (modelOf b) (accepted-judged b h), length-map (insides type.Node b) nodeOf);
+      ordered = well-ordered b (p .formed);
     }
 
 -- ---- the match call

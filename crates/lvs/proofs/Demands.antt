@@ -11,7 +11,7 @@
 use Prim.Native.Nat.{ℕ, suc, _+_, _*_, _≤_, _<_}
 use mathlib.Core.Path.{_≡_, refl, sym, ap, _∙_}
 use mathlib.Core.Logic.{_↔_}
-use mathlib.Core.Bool.{true}
+use mathlib.Core.Bool.{true, false}
 use mathlib.Core.List.{List, _∷_, _++_, List·Memᴰ}
 use lib.ListN.{length, getD}
 use contract.Lifetimes.{Lfts}
@@ -21,15 +21,16 @@ use Rattle.tlv.specs.Element.{Element, typeInRange, elementBytes, encode, InRan
 use Rattle.lvs_spec.specs.Limits.{maxModelBytes, maxTag}
 use Rattle.lvs_spec.specs.Types as type
 use Rattle.lvs_spec.specs.Grammar.{meaning, optional, critical}
-use Rattle.lvs_spec.specs.WellFormed.{thisVersion}
+use Rattle.lvs_spec.specs.WellFormed.{thisVersion, wellFormed}
 use Rattle.lvs_spec.specs.Model.{Model, modelOf}
 use Rattle.lvs_spec.specs.Verdict.{describes, reading, verdict}
 use Rattle.lvs_spec.specs.Answers.{Outcome, matchRefused, matchOutcome, signAnswer}
 use Rattle.lvs_spec.specs.Certificates.{suggestAnswer}
-use Rattle.lvs_spec.specs.Gaps.{bare, Inserted}
+use Rattle.lvs_spec.specs.Gaps.{bare, Inserted, gapPlace, Stands}
 use Rattle.lvs_spec.specs.Demands.{modelRefusals, matchRefusals, signRefusals, suggestRefusals, SomeMatch, NoMatch, SomeAllowed, NoneAllowed}
-use Rattle.lvs_spec.specs.Demands.{joined, FirstAllowed, NoCertificate, Alike, AllRefuse, unnamed, counted}
-use Rattle.lvs_spec.proofs.Refusals.{verdict-number}
+use Rattle.lvs_spec.specs.Demands.{MalformedAt, FaultWithin, joined, FirstAllowed, NoCertificate, Alike, AllRefuse, unnamed, counted}
+use Rattle.lvs_spec.proofs.Refusals.{verdict-number, refused-malformed}
+use Rattle.lvs_spec.proofs.Reading.{malformed-refused, fault-within}
 use Rattle.lvs_spec.proofs.Matching.{MatchedBy, match-matched, match-some, match-none, match-number}
 use Rattle.lvs_spec.proofs.Signing.{SignedBy, sign-allowed, sign-some, sign-none, sign-number}
 use Rattle.lvs_spec.proofs.Suggesting.{suggest-number, suggest-first, suggest-none}
@@ -39,6 +40,7 @@ use Rattle.lvs_spec.proofs.Same.{SameAnswers as SameDefined, accepted-same}
 use Rattle.lvs_spec.proofs.Unnamed.{same-unnamed}
 use Rattle.lvs_spec.proofs.Counts.{same-counts}
 use Rattle.lvs_spec.proofs.Demand3.{bare-alike, critical-refused, version-refused}
+use Rattle.lvs_spec.proofs.Critical.{stands}
 use Rattle.lvs_spec.proofs.Optional.{optional-alike}
 use Rattle.lvs.specs.Answers.{verdictOf, matchAnswerOf, signAnswerOf, suggestAnswerOf}
 use Rattle.lvs.specs.declared.Verdict.{Verdict}
@@ -123,8 +125,19 @@ suggest-asks-nothing lives m p l = tt
 -- ---- the verdict call
 
 -- a refusal is one of a model
-pub judge-refusals : {model : List ℕ} {number node : ℕ} → Judged model (verdicts.Refused number node) → List·Memᴰ number modelRefusals
+pub judge-refusals : {model : List ℕ} {number at : ℕ} → Judged model (verdicts.Refused number at) → List·Memᴰ number modelRefusals
 judge-refusals {model} c = verdict-number model (sym (judged-is c))
+
+-- it is 2 with the place p exactly when the model is not too long and of no other version, and its first fault is at p
+pub malformed-exactly : {model : List ℕ} {r : Verdict} {p : ℕ} → Judged model r → (r ≡ verdicts.Refused 2 p) ↔ MalformedAt model p
+malformed-exactly {model} {r} c = (
+  λ e. refused-malformed model (sym (judged-is c) ∙ ap verdictOf e),
+  λ f. same-verdict r _ (judged-is c ∙ malformed-refused model f),
+)
+
+-- there is such a place, and it lies within the model, exactly when the model is not well formed
+pub place-exactly : (model : List ℕ) → (wellFormed model ≡ false) ↔ FaultWithin model
+place-exactly = fault-within
 
 -- ---- the match call
 
@@ -276,12 +289,12 @@ pub record SameCalls (a b : List ℕ) : Type 0 where
   pub judged : {r q : Verdict} → Judged a r → Judged b q → r ≡ q
   pub answers : SameAnswers a b
 
--- all calls refuse with this number, and leave the buffer as it is
-pub record RefusedCalls (number : ℕ) (b : List ℕ) : Type 0 where
-  pub judged : {r : Verdict} → Judged b r → r ≡ verdicts.Refused number 0
-  pub matched : {name buffer after : List ℕ} {r : MatchAnswer} → Matched b name buffer r after → (r ≡ matchings.Refused number 0) × (after ≡ buffer)
-  pub signed : {packet key : List ℕ} {r : SignAnswer} → Signed b packet key r → r ≡ signings.Refused number 0
-  pub suggested : {packet list : List ℕ} {r : SuggestAnswer} → Suggested b packet list r → r ≡ suggestings.Refused number 0
+-- all calls refuse with these two numbers, and leave the buffer as it is
+pub record RefusedCalls (number at : ℕ) (b : List ℕ) : Type 0 where
+  pub judged : {r : Verdict} → Judged b r → r ≡ verdicts.Refused number at
+  pub matched : {name buffer after : List ℕ} {r : MatchAnswer} → Matched b name buffer r after → (r ≡ matchings.Refused number at) × (after ≡ buffer)
+  pub signed : {packet key : List ℕ} {r : SignAnswer} → Signed b packet key r → r ≡ signings.Refused number at
+  pub suggested : {packet list : List ℕ} {r : SuggestAnswer} → Suggested b packet list r → r ≡ suggestings.Refused number at
 
 same-answers : {a b : List ℕ} → SameDefined a b → SameAnswers a b
 same-answers s =
@@ -300,7 +313,7 @@ same-calls s =
       answers = same-answers (record { matched = s .matched; signed = s .signed; suggested = s .suggested });
     }
 
-refused-calls : {n : ℕ} {b : List ℕ} → AllRefuse n b → RefusedCalls n b
+refused-calls : {n i : ℕ} {b : List ℕ} → AllRefuse n i b → RefusedCalls n i b
 unfolding matchRefused
 refused-calls s =
     record {
@@ -333,13 +346,13 @@ pub large-counts-alike : {a b : List ℕ} {i j : ℕ} → Judged a (verdicts.Acc
 large-counts-alike {a} {b} {i} {j} c d l k e =
     same-answers (accepted-same a b i j (sym (judged-is c)) (sym (judged-is d)) (same-counts l k e))
 
--- a critical element x in any gap makes all calls refuse with 2, unless the model becomes too long
+-- a critical element x in any gap makes all calls refuse with 2 and the very place where x stands then, unless the model becomes too long
 pub critical-refuses : (b b′ : List ℕ) (m : Model) (x : Element) → reading b ≡ describes m → meaning (x .type) ≡ critical
-    → typeInRange (x .type) ≡ true → Inserted x b b′ → length b′ ≤ maxModelBytes → RefusedCalls 2 b′
-critical-refuses b b′ m x r c t i l = refused-calls (critical-refused b b′ m x r c t i l)
+    → typeInRange (x .type) ≡ true → (i : Inserted x b b′) → length b′ ≤ maxModelBytes → RefusedCalls 2 (gapPlace i) b′ × Stands x (gapPlace i) b′
+critical-refuses b b′ m x r c t i l = (refused-calls (critical-refused b b′ m x r c t i l), stands i)
 
 -- another version, after optional elements and before any bytes, makes all refuse with 3, unless the model is too long
 pub other-version-refuses : (es : List Element) (v rest : List ℕ) → Each InRange es → Each (λ e. meaning (e .type) ≡ optional) es → length v ≡ 4
     → ¬ (v ≡ thisVersion)
-    → let b : List ℕ = encode es ++ (elementBytes (record { type = type.Version; inside = v }) ++ rest) in length b ≤ maxModelBytes → RefusedCalls 3 b
+    → let b : List ℕ = encode es ++ (elementBytes (record { type = type.Version; inside = v }) ++ rest) in length b ≤ maxModelBytes → RefusedCalls 3 0 b
 other-version-refuses es v rest f o n other l = refused-calls (version-refused es v rest f o n other l)

@@ -21,27 +21,28 @@ const UNFIT_CERTIFICATE: u32 = 32;
 
 const MANY_CERTIFICATES: u32 = 33;
 
-// What a model is: accepted with its number of Nodes, or refused with a number of docs/format.md, 5, and a node index.
+// What a model is: accepted with its number of Nodes; or refused with a number of docs/format.md, 5, and where: a node index, with 2 the place of
+// the first byte at fault, else 0.
 pub enum Verdict {
     Accepted { nodes: u32 },
-    Refused { number: u32, node: u32 },
+    Refused { number: u32, at: u32 },
 }
 
 // The first match of a name: its node and how many Tags are bound.
 pub enum MatchAnswer {
     Match { node: u64, bound: u32 },
     NoMatch,
-    Refused { number: u32, node: u32 },
+    Refused { number: u32, at: u32 },
 }
 
 // The first pair of a packet match and a key match that may sign it: their nodes.
 pub enum SignAnswer {
     Allowed { packet: u64, key: u64 },
     NotAllowed,
-    Refused { number: u32, node: u32 },
+    Refused { number: u32, at: u32 },
 }
 
-// The first certificate of a list that may sign a packet: its index from 0. A refusal has a node index, or with 32 the index of an entry.
+// The first certificate of a list that may sign a packet: its index from 0. With 32 `at` is the index of an entry.
 pub enum SuggestAnswer {
     Certificate { index: u32 },
     NoCertificate,
@@ -52,12 +53,18 @@ pub fn judge_model(model: &[u8]) -> Verdict
     ensures { λ r. ⌜ verdictOf r ≡ verdict (now (model .entry)) ⌝ }
 {
     match lvs_grammar::check_grammar(model) {
-        Reading::TooLong => Verdict::Refused { number: 1, node: 0 },
-        Reading::Malformed => Verdict::Refused { number: 2, node: 0 },
-        Reading::OtherVersion => Verdict::Refused { number: 3, node: 0 },
+        Reading::TooLong => Verdict::Refused { number: 1, at: 0 },
+        Reading::Malformed(place) => Verdict::Refused {
+            number: 2,
+            at: place,
+        },
+        Reading::OtherVersion => Verdict::Refused { number: 3, at: 0 },
         Reading::Readable => match lvs_rules::check_rules(model) {
             Judged::Accepted { nodes } => Verdict::Accepted { nodes },
-            Judged::Refused { rule, node } => Verdict::Refused { number: rule, node },
+            Judged::Refused { rule, node } => Verdict::Refused {
+                number: rule,
+                at: node,
+            },
         },
     }
 }
@@ -67,16 +74,16 @@ pub fn match_name(model: &[u8], name: &[u8], buffer: &mut [u32]) -> MatchAnswer
     ensures { λ r. ⌜ record { answer = matchAnswerOf r; words = now (buffer .exit) } ≡
         matchOutcome (now (model .entry)) (now (name .entry)) (now (buffer .entry)) ⌝ }
 {
-    if let Verdict::Refused { number, node } = judge_model(model) {
-        return MatchAnswer::Refused { number, node };
+    if let Verdict::Refused { number, at } = judge_model(model) {
+        return MatchAnswer::Refused { number, at };
     }
     match lvs_names::read_name(name, PACKET_REFUSALS) {
-        NameRead::Refused(number) => MatchAnswer::Refused { number, node: 0 },
+        NameRead::Refused(number) => MatchAnswer::Refused { number, at: 0 },
         NameRead::Good(from) => {
             if buffer.len() < lvs_spec::BINDING_WORDS {
                 return MatchAnswer::Refused {
                     number: SHORT_BUFFER,
-                    node: 0,
+                    at: 0,
                 };
             }
             let mut places = [0u32; PLACE_WORDS];
@@ -97,13 +104,13 @@ pub fn match_name(model: &[u8], name: &[u8], buffer: &mut [u32]) -> MatchAnswer
 pub fn sign<'a>(model: &[u8], packet: &'a [u8], key: &'a [u8]) -> SignAnswer
     ensures { λ r. ⌜ signAnswerOf r ≡ signAnswer (now (model .entry)) (now (packet .entry)) (now (key .entry)) ⌝ }
 {
-    if let Verdict::Refused { number, node } = judge_model(model) {
-        return SignAnswer::Refused { number, node };
+    if let Verdict::Refused { number, at } = judge_model(model) {
+        return SignAnswer::Refused { number, at };
     }
     match lvs_names::read_name(packet, PACKET_REFUSALS) {
-        NameRead::Refused(number) => SignAnswer::Refused { number, node: 0 },
+        NameRead::Refused(number) => SignAnswer::Refused { number, at: 0 },
         NameRead::Good(p) => match lvs_names::read_name(key, KEY_REFUSALS) {
-            NameRead::Refused(number) => SignAnswer::Refused { number, node: 0 },
+            NameRead::Refused(number) => SignAnswer::Refused { number, at: 0 },
             NameRead::Good(k) => {
                 let mut places = [0u32; PLACE_WORDS];
                 lvs_edges::nodes::node_places(model, &mut places);
@@ -121,8 +128,8 @@ pub fn sign<'a>(model: &[u8], packet: &'a [u8], key: &'a [u8]) -> SignAnswer
 pub fn suggest<'a>(model: &[u8], packet: &'a [u8], list: &'a [u8]) -> SuggestAnswer
     ensures { λ r. ⌜ suggestAnswerOf r ≡ suggestAnswer (now (model .entry)) (now (packet .entry)) (now (list .entry)) ⌝ }
 {
-    if let Verdict::Refused { number, node } = judge_model(model) {
-        return SuggestAnswer::Refused { number, at: node };
+    if let Verdict::Refused { number, at } = judge_model(model) {
+        return SuggestAnswer::Refused { number, at };
     }
     match lvs_names::read_name(packet, PACKET_REFUSALS) {
         NameRead::Refused(number) => SuggestAnswer::Refused { number, at: 0 },

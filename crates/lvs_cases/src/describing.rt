@@ -82,6 +82,6 @@ fn put_describe(out: &mut Buffer, used: usize, answer: DescribeAnswer) -> usize
             numbers as u64,
             texts as u64,
         ),
-        DescribeAnswer::Refused { number, node } => output::put_refused(out, used, number, node),
+        DescribeAnswer::Refused { number, at } => output::put_refused(out, used, number, at),
     }
 }

@@ -21,6 +21,6 @@ fn put_verdict(out: &mut Buffer, used: usize, verdict: Verdict) -> usize
 {
     match verdict {
         Verdict::Accepted { nodes } => output::put_named(out, used, b"accepted ", nodes as u64),
-        Verdict::Refused { number, node } => output::put_refused(out, used, number, node),
+        Verdict::Refused { number, at } => output::put_refused(out, used, number, at),
     }
 }

@@ -75,6 +75,6 @@ fn put_match(out: &mut Buffer, used: usize, answer: MatchAnswer) -> usize
             bound as u64,
         ),
         MatchAnswer::NoMatch => output::put(out, used, b"no match"),
-        MatchAnswer::Refused { number, node } => output::put_refused(out, used, number, node),
+        MatchAnswer::Refused { number, at } => output::put_refused(out, used, number, at),
     }
 }

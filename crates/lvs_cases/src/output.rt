@@ -58,11 +58,11 @@ pub fn put_pair(out: &mut Buffer, used: usize, text: &[u8], a: u64, b: u64) -> u
     put_next(out, at, b)
 }
 
-pub fn put_refused(out: &mut Buffer, used: usize, number: u32, node: u32) -> usize
+pub fn put_refused(out: &mut Buffer, used: usize, number: u32, at: u32) -> usize
     requires { ⌜ used ≤ 65536 ⌝ }
     ensures { λ r. ⌜ r ≤ 65536 ⌝ }
 {
-    put_pair(out, used, b"refused ", number as u64, node as u64)
+    put_pair(out, used, b"refused ", number as u64, at as u64)
 }
 
 // Each word with a blank before it.

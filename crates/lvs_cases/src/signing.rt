@@ -44,6 +44,6 @@ fn put_sign(out: &mut Buffer, used: usize, answer: SignAnswer) -> usize
             key,
         ),
         SignAnswer::NotAllowed => output::put(out, used, b"not allowed"),
-        SignAnswer::Refused { number, node } => output::put_refused(out, used, number, node),
+        SignAnswer::Refused { number, at } => output::put_refused(out, used, number, at),
     }
 }

@@ -99,6 +99,6 @@ fn put_write(out: &mut Buffer, used: usize, answer: WriteAnswer) -> usize
 {
     match answer {
         WriteAnswer::Written(size) => output::put_named(out, used, b"written ", size as u64),
-        WriteAnswer::Refused { number, node } => output::put_refused(out, used, number, node),
+        WriteAnswer::Refused { number, at } => output::put_refused(out, used, number, at),
     }
 }

@@ -37,7 +37,7 @@ fn main() {
     let mut model = [0u8; MODEL_BYTES];
     let n = read_model(&mut model);
     match lvs::judge_model(&model[..n]) {
-        Verdict::Refused { number, node } => print_refused_model(number, node),
+        Verdict::Refused { number, at } => print_refused_model(number, at),
         Verdict::Accepted { nodes } => {
             print_model(nodes);
             answer_requests(&model[..n]);
@@ -140,11 +140,11 @@ fn wide(b: u8) -> usize
     b as usize
 }
 
-fn print_refused_model(number: u32, node: u32) {
+fn print_refused_model(number: u32, at: u32) {
     io::write_all(STDOUT_FILENO, b"model refused ");
     io::print_decimal(STDOUT_FILENO, number as u64);
     io::write_all(STDOUT_FILENO, b" at ");
-    io::print_decimal(STDOUT_FILENO, node as u64);
+    io::print_decimal(STDOUT_FILENO, at as u64);
     io::write_all(STDOUT_FILENO, b"\n");
 }
 
@@ -166,7 +166,7 @@ fn print_answer(k: u64, answer: SignAnswer) {
     match answer {
         SignAnswer::Allowed { packet, key } => print_allowed(packet, key),
         SignAnswer::NotAllowed => print_not_allowed(),
-        SignAnswer::Refused { number, node: _ } => print_refused(number),
+        SignAnswer::Refused { number, at: _ } => print_refused(number),
     }
 }
 

@@ -16,16 +16,16 @@ const SHORT_OUTPUT: u32 = 31;
 // The most bytes of a description that is written with little space.
 const SMALL: usize = 4096;
 
-// Written with this many bytes; or refused, with a node index.
+// Written with this many bytes; or refused, as the verdict would refuse those bytes, or with 30 or 31 and 0.
 pub enum WriteAnswer {
     Written(usize),
-    Refused { number: u32, node: u32 },
+    Refused { number: u32, at: u32 },
 }
 
-// Described with so many numbers and bytes of texts; or refused, with a node index.
+// Described with so many numbers and bytes of texts; or refused, as the verdict refuses the model, or with 30 and 0.
 pub enum DescribeAnswer {
     Described { numbers: usize, texts: usize },
-    Refused { number: u32, node: u32 },
+    Refused { number: u32, at: u32 },
 }
 
 // Writes the bytes of a description over the front of a lent output; those behind stay. A refusal keeps all.
@@ -36,11 +36,11 @@ pub fn write_model(numbers: &[u64], texts: &[u8], output: &mut [u8]) -> WriteAns
     let Size::Bytes(size) = lvs_write::described_size(numbers, texts) else {
         return WriteAnswer::Refused {
             number: NO_DESCRIPTION,
-            node: 0,
+            at: 0,
         };
     };
     if lvs_spec::MAX_MODEL_BYTES < size {
-        return WriteAnswer::Refused { number: 1, node: 0 };
+        return WriteAnswer::Refused { number: 1, at: 0 };
     }
     if size <= SMALL {
         return write_small(numbers, texts, size, output);
@@ -84,10 +84,10 @@ fn refuse_short(numbers: &[u64], texts: &[u8], space: &mut [u8]) -> WriteAnswer
 {
     lvs_write::write_description(numbers, texts, space);
     match lvs::judge_model(space) {
-        Verdict::Refused { number, node } => WriteAnswer::Refused { number, node },
+        Verdict::Refused { number, at } => WriteAnswer::Refused { number, at },
         Verdict::Accepted { .. } => WriteAnswer::Refused {
             number: SHORT_OUTPUT,
-            node: 0,
+            at: 0,
         },
     }
 }
@@ -101,9 +101,9 @@ fn write_over(numbers: &[u64], texts: &[u8], place: &mut [u8], space: &mut [u8])
     tlv_writer::put_bytes(space, 0, place);
     lvs_write::write_description(numbers, texts, place);
     match lvs::judge_model(place) {
-        Verdict::Refused { number, node } => {
+        Verdict::Refused { number, at } => {
             tlv_writer::put_bytes(place, 0, space);
-            WriteAnswer::Refused { number, node }
+            WriteAnswer::Refused { number, at }
         }
         Verdict::Accepted { .. } => WriteAnswer::Written(place.len()),
     }
@@ -117,13 +117,13 @@ pub fn describe_model(model: &[u8], numbers: &mut [u64], texts: &mut [u8]) -> De
         describeOutcome (now (model .entry)) (now (numbers .entry)) (now (texts .entry))
         ⌝ }
 {
-    if let Verdict::Refused { number, node } = lvs::judge_model(model) {
-        return DescribeAnswer::Refused { number, node };
+    if let Verdict::Refused { number, at } = lvs::judge_model(model) {
+        return DescribeAnswer::Refused { number, at };
     }
     match lvs_describe::describe(model, numbers, texts) {
         Described::TooShort => DescribeAnswer::Refused {
             number: NO_DESCRIPTION,
-            node: 0,
+            at: 0,
         },
         Described::Of {
             numbers: n,

@@ -3,12 +3,14 @@ use Prim.Native.Nat.{ℕ}
 use mathlib.Core.Path.{_≡_, refl, sym, _∙_}
 use mathlib.Core.Bool.{Bool, true, false}
 use mathlib.Core.List.{List, [], _∷_, _++_, List·Memᴰ, List·Memᴰ·head, List·Memᴰ·tail}
+use mathlib.Core.Option.{Option, none, some}
 use Rattle.lvs_spec.specs.WellFormed.{tooLong}
+use Rattle.lvs_spec.specs.Places.{faultPlace}
 use Rattle.lvs_spec.specs.Model.{Model}
 use Rattle.lvs_spec.specs.Verdict.{Verdict, rules, judge, verdict}
 use Rattle.lvs_spec.specs.Demands.{modelRefusals}
 use Rattle.lvs_spec.proofs.Refusals.{decide-number}
-use Rattle.lvs_description.specs.Description.{modelBytes, formed}
+use Rattle.lvs_description.specs.Description.{modelBytes}
 use Rattle.lvs_description.specs.Answers.{noDescription, shortOutput}
 use Rattle.lvs_description.proofs.Theorem.{readingOf, verdictOf, written-judged}
 
@@ -36,15 +38,16 @@ judge-number m h = decide-number m (rules m) h
 
 pub bytes-number : (m : Model) {r i : ℕ} → verdict (modelBytes m) ≡ Verdict.refused r i → List·Memᴰ r bytesRefusals
 unfolding verdictOf readingOf
-bytes-number m {r} {i} h = go (tooLong (modelBytes m)) (formed m) refl refl (sym (written-judged m) ∙ h)
+bytes-number m {r} {i} h = go (tooLong (modelBytes m)) (faultPlace (modelBytes m)) refl refl (sym (written-judged m) ∙ h)
   where
-    go : (x y : Bool) → tooLong (modelBytes m) ≡ x → formed m ≡ y → verdictOf m ≡ Verdict.refused r i → List·Memᴰ r bytesRefusals
-    go true y p q h =
+    go : (x : Bool) (o : Option ℕ) → tooLong (modelBytes m) ≡ x → faultPlace (modelBytes m) ≡ o → verdictOf m ≡ Verdict.refused r i
+        → List·Memᴰ r bytesRefusals
+    go true o p q h =
         let h′ : Verdict.refused 1 0 ≡ Verdict.refused r i = rw (p, verdictOf, readingOf) at h in
         let e : r ≡ 1 = cc in
         List·Memᴰ·head e
-    go false false p q h =
-        let h′ : Verdict.refused 2 0 ≡ Verdict.refused r i = rw (p, q, verdictOf, readingOf) at h in
+    go false (some j) p q h =
+        let h′ : Verdict.refused 2 j ≡ Verdict.refused r i = rw (p, q, verdictOf, readingOf) at h in
         let e : r ≡ 2 = cc in
         List·Memᴰ·tail (List·Memᴰ·head e)
-    go false true p q h = List·Memᴰ·tail (List·Memᴰ·tail (judge-number m (rw (p, q, verdictOf, readingOf) at h)))
+    go false none p q h = List·Memᴰ·tail (List·Memᴰ·tail (judge-number m (rw (p, q, verdictOf, readingOf) at h)))

@@ -6,10 +6,11 @@ use Prim.Native.Nat.{ℕ, _≤_}
 use mathlib.Core.Path.{_≡_, refl, sym, ap, _∙_}
 use mathlib.Core.Bool.{Bool, true, false}
 use mathlib.Core.List.{List}
-use mathlib.Core.Option.{some}
+use mathlib.Core.Option.{Option, none, some}
 use lib.ListN.{length}
 use Rattle.tlv.specs.Bytes.{Bytes}
 use Rattle.lvs_spec.specs.WellFormed.{tooLong, otherVersion, wellFormed}
+use Rattle.lvs_spec.specs.Places.{faultPlace}
 use Rattle.lvs_spec.specs.Model.{Model, modelOf}
 use Rattle.lvs_spec.specs.Verdict.{Reading, unreadable, describes, reading, Verdict, accepted, refused, verdict, judge}
 use Rattle.lvs_spec.specs.Demands.{Alike}
@@ -43,22 +44,22 @@ written-back m h ok = written.back m h (sym (written.formed-is m h) ∙ ok)
 pub written-version : (m : Model) → Short (modelBytes m) → otherVersion (modelBytes m) ≡ false
 written-version = written.this-version
 
--- So the bytes of any description are too long (1), malformed (2), or describe it. They are never of another version (3).
+-- So the bytes of any description are too long (1), malformed at a place (2), or describe it. They are never of another version (3).
 unfoldable pub readingOf : Model → Reading
 readingOf m =
     elim (tooLong (modelBytes m)) [
-      | true ↦ unreadable 1
-      | false ↦ elim (formed m) [ false ↦ unreadable 2 | true ↦ describes m ]
+      | true ↦ unreadable 1 0
+      | false ↦ elim (faultPlace (modelBytes m)) [ some i ↦ unreadable 2 i | none ↦ describes m ]
     ]
 
 pub written-reading : (m : Model) → reading (modelBytes m) ≡ readingOf m
 unfolding readingOf
-written-reading m = go (tooLong (modelBytes m)) (formed m) refl refl
+written-reading m = go (tooLong (modelBytes m)) (faultPlace (modelBytes m)) refl refl
   where
-    go : (x y : Bool) → tooLong (modelBytes m) ≡ x → formed m ≡ y → reading (modelBytes m) ≡ readingOf m
-    go true y p q = written.read-long m p ∙ rw (p, readingOf)
-    go false false p q = written.read-malformed m p q ∙ rw (p, q, readingOf)
-    go false true p q = written.read-formed m p q ∙ rw (p, q, readingOf)
+    go : (x : Bool) (o : Option ℕ) → tooLong (modelBytes m) ≡ x → faultPlace (modelBytes m) ≡ o → reading (modelBytes m) ≡ readingOf m
+    go true o p q = written.read-long m p ∙ rw (p, readingOf)
+    go false (some i) p q = written.read-malformed m p q ∙ rw (p, q, readingOf)
+    go false none p q = written.read-none m p q ∙ rw (p, q, readingOf)
 
 -- Bytes that are accepted describe the model that they were written from,
 pub written-accepted : (m : Model) (count : ℕ) → verdict (modelBytes m) ≡ accepted count → reading (modelBytes m) ≡ describes m
@@ -81,7 +82,7 @@ written-lists ns ts m count d p =
 
 -- The verdict by the description and the length of its bytes, as the writing call has to find it before a byte is written.
 unfoldable pub verdictOf : Model → Verdict
-verdictOf m = elim (readingOf m) [ unreadable r ↦ refused r 0 | describes x ↦ judge x ]
+verdictOf m = elim (readingOf m) [ unreadable r i ↦ refused r i | describes x ↦ judge x ]
 
 -- It is the verdict on the bytes: a description that is refused gets the very two numbers that its bytes would get.
 pub written-judged : (m : Model) → verdict (modelBytes m) ≡ verdictOf m

@@ -1,19 +1,22 @@
 -- The proofs of the theorems that Theorem.antt states, from the laws of the model as a container. Assumes nothing.
-use mathlib.Core.Path.{_≡_, refl}
-use mathlib.Core.Bool.{Bool, true, false}
+use mathlib.Core.Path.{_≡_, sym, _∙_}
+use mathlib.Core.Bool.{true, false}
 use mathlib.Core.List.{List}
+use mathlib.Core.Option.{none, some}
 use Prim.Native.Nat.{ℕ, _≤_}
 use native.Mathlib.Omega.{arith}
-use borrow.Author.Tests.{ltb-false, le-ltb}
+use borrow.Author.Tests.{ltb-false}
 use lib.ListN.{length}
 use Rattle.tlv.specs.Bytes.{Bytes, sameBytes}
 use Rattle.lvs_spec.specs.Grammar.{meaning, lookup, knownTypes}
 use Rattle.lvs_spec.specs.Limits.{maxModelBytes}
 use Rattle.lvs_spec.specs.WellFormed.{tooLong, otherVersion, wellFormed, firstKnown, isOtherVersion}
+use Rattle.lvs_spec.specs.Places.{faultPlace}
 use Rattle.lvs_spec.specs.Model.{Model, modelOf}
 use Rattle.lvs_spec.specs.Verdict.{unreadable, describes, reading, accepted, verdict}
-use Rattle.lvs_spec.proofs.Demand3.{passed, reads, good}
-use Rattle.lvs_spec.proofs.Lists.{clash}
+use Rattle.lvs_spec.proofs.Places.{formed-none, none-formed}
+use Rattle.lvs_spec.proofs.Reading.{passed, not-long, reads, accepted-passed}
+use Rattle.lvs_spec.proofs.Demand3.{good}
 use Rattle.lvs_description.specs.Description.{modelBytes, formed}
 use Rattle.lvs_description.proofs.Rows.{Short}
 use Rattle.lvs_description.proofs.Containers.{model-container}
@@ -40,41 +43,36 @@ unfolding tooLong
 short b p = let h : length b ≤ maxModelBytes = ltb-false _ _ p in omega arith
 
 -- what they are read as: too long,
-pub read-long : (m : Model) → tooLong (modelBytes m) ≡ true → reading (modelBytes m) ≡ unreadable 1
+pub read-long : (m : Model) → tooLong (modelBytes m) ≡ true → reading (modelBytes m) ≡ unreadable 1 0
 unfolding reading
 read-long m p = rw (p, reading)
 
 module _ (m : Model) (p : tooLong (modelBytes m) ≡ false) where
-  -- malformed,
-  pub read-malformed : formed m ≡ false → reading (modelBytes m) ≡ unreadable 2
+  -- malformed at a place,
+  pub read-malformed : {i : ℕ} → faultPlace (modelBytes m) ≡ some i → reading (modelBytes m) ≡ unreadable 2 i
   unfolding reading
-  read-malformed q = let h = short (modelBytes m) p in rw (p, this-version m h, formed-is m h, q, reading)
+  read-malformed q = let h = short (modelBytes m) p in rw (p, this-version m h, q, reading)
 
   -- or the description
   pub read-formed : formed m ≡ true → reading (modelBytes m) ≡ describes m
   unfolding reading
-  read-formed q = let h = short (modelBytes m) p in rw (p, this-version m h, formed-is m h, q, back m h q, reading)
+  read-formed q =
+      let h = short (modelBytes m) p in
+      rw (p, this-version m h, formed-none (modelBytes m) (formed-is m h ∙ q), back m h q, reading)
+
+  pub read-none : faultPlace (modelBytes m) ≡ none → reading (modelBytes m) ≡ describes m
+  read-none q = read-formed (sym (formed-is m (short (modelBytes m) p)) ∙ none-formed (modelBytes m) q)
 
 -- bytes that are accepted describe a model
 pub accepted-reading : (b : List ℕ) (n : ℕ) → verdict b ≡ accepted n → reading b ≡ describes (modelOf b)
-unfolding verdict reading
-accepted-reading b n p = go (tooLong b) (otherVersion b) (wellFormed b) refl refl refl
-  where
-    go : (x y z : Bool) → tooLong b ≡ x → otherVersion b ≡ y → wellFormed b ≡ z → reading b ≡ describes (modelOf b)
-    go true y z q r s = clash (cc (rw (q, verdict, reading) at p))
-    go false true z q r s = clash (cc (rw (q, r, verdict, reading) at p))
-    go false false false q r s = clash (cc (rw (q, r, s, verdict, reading) at p))
-    go false false true q r s = rw (q, r, s, reading)
+accepted-reading b n p = reads b (accepted-passed b p)
 
 -- and where they were written, the one that they were written from
 pub accepted-is : (m : Model) (count : ℕ) → verdict (modelBytes m) ≡ accepted count → reading (modelBytes m) ≡ describes m
-accepted-is m count p = go (tooLong (modelBytes m)) (formed m) refl refl (accepted-reading (modelBytes m) count p)
-  where
-    go : (x y : Bool) → tooLong (modelBytes m) ≡ x → formed m ≡ y → reading (modelBytes m) ≡ describes (modelOf (modelBytes m))
-        → reading (modelBytes m) ≡ describes m
-    go true y a b r = clash (cc (read-long m a))
-    go false false a b r = clash (cc (read-malformed m a b))
-    go false true a b r = read-formed m a b
+accepted-is m count p =
+    let P = accepted-passed (modelBytes m) p in
+    let fits = not-long (modelBytes m) (P .short) in
+    read-formed m fits (sym (formed-is m (short (modelBytes m) fits)) ∙ P .formed)
 
 -- ---- of a description that was read
 
@@ -92,7 +90,6 @@ module _ (b : List ℕ) (by : Bytes b) (m : Model) (p : reading b ≡ describes 
 
   -- and read again
   pub again : reading (modelBytes m) ≡ describes m
-  unfolding tooLong
   again =
-      let fits : tooLong (modelBytes m) ≡ false = le-ltb maxModelBytes (length (modelBytes m)) (omega (arith, no-longer, passed b m p .short)) in
+      let fits = not-long (modelBytes m) (omega (arith, no-longer, passed b m p .short)) in
       read-formed m fits (kept .0)

@@ -19,15 +19,15 @@ returns c =
 
 returns-2 : tie.Need-returns-2
 returns-2 c =
-    let read = c .before .before in
+    let read = c .before .before .before in
     let b = start read .args .model .now in
-    sym (verdict-unreadable b (reading-is b (read .check-grammar .ensures) (c .enum-told2 .given .1)))
+    sym (verdict-unreadable b (reading-is b (read .check-grammar .ensures) (c .before .place .given .1)))
 
 returns-3 : tie.Need-returns-3
 returns-3 c =
     let read = c .before .before in
     let b = start read .args .model .now in
-    sym (verdict-unreadable b (reading-is b (read .check-grammar .ensures) (c .enum-told3 .given .1)))
+    sym (verdict-unreadable b (reading-is b (read .check-grammar .ensures) (c .enum-told2 .given .1)))
 
 -- the rules decide
 returns-4 : tie.Need-returns-4
@@ -35,7 +35,7 @@ returns-4 c =
     let told = c .before .before .before .before in
     let read = told .before .before in
     let b = start read .args .model .now in
-    verdict-judged b (reading-is b (read .check-grammar .ensures) (told .enum-told4 .given .1))
+    verdict-judged b (reading-is b (read .check-grammar .ensures) (told .enum-told3 .given .1))
     (sym (ap judgedOf (c .before .nodes .given .1)) ∙ c .before .before .before .check-rules .ensures)
 
 returns-5 : tie.Need-returns-5
@@ -43,7 +43,7 @@ returns-5 c =
     let told = c .before .before .before .before in
     let read = told .before .before in
     let b = start read .args .model .now in
-    verdict-judged b (reading-is b (read .check-grammar .ensures) (told .enum-told4 .given .1))
+    verdict-judged b (reading-is b (read .check-grammar .ensures) (told .enum-told3 .given .1))
     (sym (ap judgedOf (c .before .rule .given .1)) ∙ c .before .before .before .check-rules .ensures)
 
 pub judge-model-spec : {M : Type 1} → statement M
