@@ -34,9 +34,9 @@ def cases():
         yield f"{what}: (/a, empty)", sign(model, SLASH_A, EMPTY), "not allowed"
         yield f"{what}: (/a, bytes 07 01)", sign(model, SLASH_A, bytes.fromhex("07 01")), "refused 25 0"
     for what, model, answer in (
-        ("B with a critical element", CRITICAL, "refused 2 0"),
+        ("B with a critical element", CRITICAL, "refused 2 17"),
         ("another version, and cut", OTHER_VERSION_CUT, "refused 3 0"),
-        ("A cut", A[:-1], "refused 2 0"),
+        ("A cut", A[:-1], "refused 2 12"),
         ("A with StartId 1", A_START_1, "refused 7 0"),
         ("A without its Node", A_NO_NODE, "refused 7 0"),
         ("B with Parent 1 in its second Node", B_PARENT_1, "refused 11 0"),

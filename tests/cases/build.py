@@ -3,7 +3,7 @@ import pathlib
 import sys
 
 sys.path.append(str(pathlib.Path(__file__).resolve().parents[2] / "tools"))
-from name import element, name as path, number, request, shortest_integer  # path: a name from its URI
+from name import name as path, number, request, shortest_integer  # path: a name from its URI
 
 # types of elements (docs/format.md, 3.1)
 NAME, GENERIC = 0x07, 0x08
@@ -13,6 +13,44 @@ VALUE_EDGE, PATTERN_EDGE, SIGNER, PARENT = 0x51, 0x53, 0x55, 0x57
 VERSION, NODE, SYMBOL, PATTERN_COUNT = 0x61, 0x63, 0x67, 0x69
 
 GOOD_VERSION = 0x00011000
+
+# what a model is built from carries the place of its first fault to where the model begins
+
+
+class Faulty(bytes):
+    """Malformed bytes, with the place of the first fault in them."""
+
+    place = 0
+
+
+def faulty(data, place=0):
+    found = Faulty(data)
+    found.place = place
+    return found
+
+
+MISSING = faulty(b"")  # behind the last element of a container that has to have one more
+
+
+def concat(*parts):
+    """The parts one behind the other. Where one is faulty the whole is, at the place of the first."""
+    data, before = b"".join(parts), 0
+    for part in parts:
+        if isinstance(part, Faulty):
+            return faulty(data, before + part.place)
+        before += len(part)
+    return data
+
+
+def element(typ, *inside):
+    inside = concat(*inside)
+    return concat(number(typ) + number(len(inside)), inside)
+
+
+def plain(typ, data):
+    """An element that holds plain bytes. Where these are at fault, the place is the element's start."""
+    written = element(typ, data)
+    return faulty(written) if isinstance(data, Faulty) else written
 
 
 def integer(typ, n, size=None):
@@ -92,7 +130,7 @@ def symbol(n, text):
 
 def model(*nodes, start=0, patterns=0, version=GOOD_VERSION, behind=b""):
     head = element(VERSION, version.to_bytes(4, "big")) + integer(NODE_ID, start) + integer(PATTERN_COUNT, patterns)
-    return head + b"".join(nodes) + behind
+    return concat(head, *nodes, behind)
 
 
 def padded(short, size):
@@ -189,6 +227,11 @@ def matched(at, *bound, behind=()):
 def kept(answer, words=OLD):
     """The line of another answer: all words as they were."""
     return answer + words_line(words)
+
+
+def refused_at(of):
+    """The line of a malformed model: where the first fault is."""
+    return f"refused 2 {of.place}"
 
 
 def bytes_line(data):

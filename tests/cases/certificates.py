@@ -9,7 +9,7 @@ from build import *
 from document_003 import ADMIN_KEY, AUTHOR_KEY, QUICK, TUTORIAL
 from gaps import FULL, PACKET, put_everywhere
 from limits import LOOP
-from refusals import NODE_RULES, with_faults
+from refusals import refused, with_faults
 
 # at these no element can be cut off, whatever is behind them in a list of the driver
 NOT_CUT = {
@@ -275,7 +275,8 @@ BAD_NAMES = (
 def order():
     """The model, then the packet name, then 33, then 32."""
     for rule in range(1, 13):
-        of, answer = with_faults(**{f"r{rule}": 3}), f"refused {rule} {3 if rule in NODE_RULES else 0}"
+        of = with_faults(**{f"r{rule}": 3})
+        answer = refused(rule, 3, of)
         for what, data in bad_lists() if rule in (2, 9, 12) else [("one that may sign", SLASH_A)]:
             yield f"model refused with {rule}, {what}", suggest(of, SLASH_A, data), answer
             yield f"model refused with {rule}, a malformed packet name, {what}", suggest(of, b"\x07", data), answer
@@ -410,7 +411,8 @@ def optional():
         of = put_everywhere(FULL, bytes.fromhex(spare))
         yield f"{spare} in every gap", suggest(of, PACKET, SLASH_A, PACKET, PACKET), certificate(1)
         yield f"{spare} in every gap, none", suggest(of, PACKET, SLASH_A, EMPTY), "none"
-    yield "a critical element in every gap", suggest(put_everywhere(FULL, bytes.fromhex("8100")), PACKET, PACKET), "refused 2 0"
+    of = put_everywhere(FULL, faulty(bytes.fromhex("8100")))
+    yield "a critical element in every gap", suggest(of, PACKET, PACKET), refused_at(of)
 
 
 def cases():

@@ -19,7 +19,7 @@ def models():
     bad_signer = model(node(0), node(1, signer(2)))
     for what, of, line in (
         ("another version", OTHER_VERSION_CUT, "model refused 3 at 0\n"),
-        ("a cut model", B[:-1], "model refused 2 at 0\n"),
+        ("a cut model", B[:-1], "model refused 2 at 25\n"),
         ("another parent", B_PARENT_1, "model refused 11 at 0\n"),
         ("a signer that is no Node", bad_signer, "model refused 9 at 1\n"),
         ("no file", None, "model refused 2 at 0\n"),

@@ -24,17 +24,17 @@ def put_in(inside, spare):
     elements = list(parts(inside))
     written = [element(*e) for e in elements]
     for i in range(len(written) + 1):
-        yield b"".join([*written[:i], spare, *written[i:]])
+        yield concat(*written[:i], spare, *written[i:])
     for i, (typ, deeper) in enumerate(elements):
         if typ in CONTAINERS:
             for changed in put_in(deeper, spare):
-                yield b"".join([*written[:i], element(typ, changed), *written[i + 1 :]])
+                yield concat(*written[:i], element(typ, changed), *written[i + 1 :])
 
 
 def put_everywhere(inside, spare):
     """inside with spare in all of its gaps, those of the containers in it too."""
     written = [element(typ, put_everywhere(deeper, spare) if typ in CONTAINERS else deeper) for typ, deeper in parts(inside)]
-    return spare + b"".join(e + spare for e in written)
+    return concat(spare, *(concat(e, spare) for e in written))
 
 
 # /v/w matches Node 2 with Tag 1 bound to w: 2 bytes of the name, then /v in 3 bytes, then /w. Its own key signs it.
@@ -52,7 +52,7 @@ FULL = model(
 PACKET = path("/v/w")
 OPTIONAL = ["8000", "20020000", "fd010003ffffff", "fefffffffe00"]
 CRITICAL = ["8100", "1e00", "0100", "fd0101020800", "fe0001000100"]
-KNOWN = [element(typ) for typ in (NAME, GENERIC)]  # types 7 and 8 are no types of a model
+KNOWN = [faulty(element(typ)) for typ in (NAME, GENERIC)]  # types 7 and 8 are no types of a model
 
 
 def answered(what, of):
@@ -62,9 +62,9 @@ def answered(what, of):
 
 
 def malformed(what, of):
-    yield what, verdict(of), "refused 2 0"
-    yield what, match(of, PACKET, OLD), kept("refused 2 0")
-    yield what, sign(of, PACKET, PACKET), "refused 2 0"
+    yield what, verdict(of), refused_at(of)
+    yield what, match(of, PACKET, OLD), kept(refused_at(of))
+    yield what, sign(of, PACKET, PACKET), refused_at(of)
 
 
 def cases():
@@ -74,15 +74,15 @@ def cases():
         # one type for each gap, in turn, so that each container meets several
         spare = bytes.fromhex(OPTIONAL[i % len(OPTIONAL)])
         yield from answered(f"{spare.hex()} in gap {i}", list(put_in(FULL, spare))[i])
-        spare = bytes.fromhex(CRITICAL[i % len(CRITICAL)])
+        spare = faulty(bytes.fromhex(CRITICAL[i % len(CRITICAL)]))
         yield from malformed(f"{spare.hex()} in gap {i}", list(put_in(FULL, spare))[i])
     for spare in OPTIONAL:
         yield from answered(f"{spare} in every gap", put_everywhere(FULL, bytes.fromhex(spare)))
     yield from answered("two in every gap", put_everywhere(FULL, bytes.fromhex("80002200")))
     for spare in CRITICAL:
-        yield from malformed(f"{spare} in every gap", put_everywhere(FULL, bytes.fromhex(spare)))
+        yield from malformed(f"{spare} in every gap", put_everywhere(FULL, faulty(bytes.fromhex(spare))))
     for spare in KNOWN:
         for i, of in enumerate(put_in(FULL, spare)):
-            yield f"{spare.hex()} in gap {i}", verdict(of), "refused 2 0"
+            yield f"{spare.hex()} in gap {i}", verdict(of), refused_at(of)
     # a critical element within an optional one's inside is not read
     yield from answered("an optional element around a critical one", put_everywhere(FULL, bytes.fromhex("80028100")))

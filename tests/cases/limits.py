@@ -90,7 +90,7 @@ def words():
     # the buffer is tested last
     yield "255 words and no match", match(A, A_NAME, old[:255]), kept("refused 27 0", old[:255])
     yield "255 words and a malformed name", match(B, b"", old[:255]), kept("refused 22 0", old[:255])
-    yield "255 words and a malformed model", match(B[:-1], A_NAME, old[:255]), kept("refused 2 0", old[:255])
+    yield "255 words and a malformed model", match(B[:-1], A_NAME, old[:255]), kept("refused 2 25", old[:255])
 
 
 def model_bytes():
@@ -143,7 +143,7 @@ def integers():
         yield f"integers of {size} bytes", match(sized(size), A_NAME, OLD), matched(1, (1, 2, 3))
         yield f"integers of {size} bytes", sign(sized(size), A_NAME, A_NAME), "allowed 1 1"
     for size in (3, 5, 6, 7, 9):
-        yield f"integers of {size} bytes", verdict(sized(size)), "refused 2 0"
+        yield f"integers of {size} bytes", verdict(sized(size)), "refused 2 6"  # StartId is the first
     # no bit of a large integer is lost
     large = 1 << 32
     yield "NamedPatternCnt has no limit", verdict(sized(8, patterns=2**64 - 1)), "accepted 2"

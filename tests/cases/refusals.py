@@ -5,7 +5,7 @@ from limits import all_three
 
 COUNT = 5
 A_NAME = path("/a")
-NODE_RULES = (6, 8, 9, 10, 11, 12)  # these answer the Node's position, the others 0
+NODE_RULES = (6, 8, 9, 10, 11, 12)  # these answer the Node's position, 2 the place of the fault, the others 0
 
 
 def ring():
@@ -62,12 +62,12 @@ def other_parent(nodes, i):
 # by refusal number: what puts Node i at fault
 FAULTS = {
     2: [
-        ("a critical element", set_to(behind=bytes.fromhex("8100"))),
-        ("a known element out of its place", set_to(behind=parent(0))),
-        ("a cut element", set_to(behind=bytes.fromhex("80 02 00"))),
-        ("an option with a Parent", set_to(terms=[parent(0)])),
-        ("a function without its $", set_to(terms=[call("eq", value("x"))])),
-        ("an argument with two Values", set_to(terms=[element(CALL, element(FN_ID, b"$eq"), argument(value("x") + value("y")))])),
+        ("a critical element", set_to(behind=faulty(bytes.fromhex("8100")))),
+        ("a known element out of its place", set_to(behind=faulty(parent(0)))),
+        ("a cut element", set_to(behind=faulty(bytes.fromhex("80 02 00")))),
+        ("an option with a Parent", set_to(terms=[faulty(parent(0))])),
+        ("a function without its $", set_to(terms=[faulty(call("eq", value("x")), 2)])),  # the FnId behind the call's header
+        ("an argument with two Values", set_to(terms=[call("$eq", concat(value("x"), faulty(value("y"))))])),
     ],
     5: [("Tag 0", set_to(tag=0)), ("Tag 129", set_to(tag=129)), ("Tag 129 in an option", set_to(terms=[tag(129)]))],
     6: [("a NodeId of no Node", set_to(id=200)), ("another Node's NodeId", lambda nodes, i: nodes[i].update(id=(i + 1) % COUNT))],
@@ -100,8 +100,8 @@ FAULTS = {
 }
 
 
-def refused(rule, i):
-    return f"refused {rule} {i if rule in NODE_RULES else 0}"
+def refused(rule, i, of):
+    return refused_at(of) if rule == 2 else f"refused {rule} {i if rule in NODE_RULES else 0}"
 
 
 def one_fault():
@@ -111,12 +111,14 @@ def one_fault():
             for i in (0, 2, COUNT - 1):
                 nodes = ring()
                 fault(nodes, i)
-                yield f"{what} in Node {i}", verdict(ring_model(nodes)), refused(rule, i)
+                of = ring_model(nodes)
+                yield f"{what} in Node {i}", verdict(of), refused(rule, i, of)
         # what one rule refuses, all three calls refuse alike
         for i in (0, 2, COUNT - 1):
             nodes = ring()
             faults[0][1](nodes, i)
-            yield from all_three(f"{faults[0][0]} in Node {i}", ring_model(nodes), refused(rule, i))
+            of = ring_model(nodes)
+            yield from all_three(f"{faults[0][0]} in Node {i}", of, refused(rule, i, of))
     yield from all_three("another version", ring_model(ring(), version=0x00011001), "refused 3 0")
     yield from all_three("a StartId of no Node", ring_model(ring(), start=COUNT), "refused 7 0")
     yield "StartId is the last Node", verdict(ring_model(ring(), start=COUNT - 1)), "accepted 5"
@@ -153,7 +155,7 @@ def two_faults():
                 continue
             for i, j in ((3, 1), (1, 3)):
                 of = with_faults(**{f"r{low}": i, f"r{high}": j})
-                answer = "refused 3 0" if (low, high) == (2, 3) else refused(low, i)
+                answer = "refused 3 0" if (low, high) == (2, 3) else refused(low, i, of)
                 yield f"rule {low} in Node {i}, rule {high} in Node {j}", verdict(of), answer
 
 
@@ -162,7 +164,8 @@ def one_rule_twice():
         nodes = ring()
         for i in (3, 1):
             faults[0][1](nodes, i)
-        yield f"rule {rule} in Nodes 1 and 3", verdict(ring_model(nodes)), refused(rule, 1)
+        of = ring_model(nodes)
+        yield f"rule {rule} in Nodes 1 and 3", verdict(of), refused(rule, 1, of)
     # an edge's faults in both of a Node's edges, and a rule's two faults in one Node
     nodes = ring()
     nodes[2].update(to=9, pattern_to=9, signer=9)
@@ -174,7 +177,7 @@ def version_first():
     other = element(VERSION, bytes.fromhex("00010000"))
     yield "nothing after Version", verdict(other), "refused 3 0"
     yield "no element after Version", verdict(other + b"\x00\xff"), "refused 3 0"
-    yield "a good Version and nothing", verdict(element(VERSION, bytes.fromhex("00011000"))), "refused 2 0"
+    yield "a good Version and nothing", verdict(element(VERSION, bytes.fromhex("00011000"))), "refused 2 6"
     yield "an optional element before Version", verdict(bytes.fromhex("8000") + other), "refused 3 0"
     yield "a critical one before Version", verdict(bytes.fromhex("8100") + other), "refused 2 0"
     yield "a known one before Version", verdict(integer(NODE_ID, 0) + other), "refused 2 0"
@@ -201,56 +204,59 @@ def malformed():
     head = model()
     yield "every order kept", verdict(first(rule_name("#a"), rule_name("#_b9"), value_edge(1, "v"), pattern_edge(1, 1), signer(1))), "accepted 2"
     wrong = (
-        ("no StartId", head[:6] + head[9:] + node(0)),
-        ("no NamedPatternCnt", head[:9] + node(0)),
-        ("two StartIds", head[:9] + head[6:] + node(0)),
-        ("two Versions", head[:6] + head + node(0)),
-        ("a wrapper around it", element(0x08, model(node(0)))),
-        ("a TagSymbol before a Node", model(symbol(1, "a"), node(0))),
-        ("a Node without NodeId", model(element(NODE))),
-        ("a Node with two NodeIds", model(node(0, node_id(0)))),
-        ("a Node with two Parents", model(node(0, parent(0), parent(0)))),
-        ("a Parent before the NodeId", model(element(NODE, parent(0), node_id(0)))),
-        ("a Parent after a RuleName", first(rule_name("#a"), parent(0))),
-        ("a ValueEdge after a PatternEdge", first(pattern_edge(1, 1), value_edge(1, "v"))),
-        ("a PatternEdge after a signer", first(signer(0), pattern_edge(1, 1))),
-        ("a RuleName after an edge", first(value_edge(1, "v"), rule_name("#a"))),
-        ("a Node in a Node", first(node(1))),
-        ("a ValueEdge without Value", first(element(VALUE_EDGE, edge[0]))),
-        ("a ValueEdge without destination", first(element(VALUE_EDGE, value("v")))),
-        ("a ValueEdge turned round", first(element(VALUE_EDGE, value("v"), edge[0]))),
-        ("a ValueEdge with two Values", first(element(VALUE_EDGE, edge[0], value("v"), value("v")))),
-        ("a PatternEdge without Tag", first(element(PATTERN_EDGE, edge[0]))),
-        ("a PatternEdge with two Tags", first(element(PATTERN_EDGE, *edge, tag(1)))),
-        ("a PatternEdge with an option", first(element(PATTERN_EDGE, *edge, option(tag(1))))),
-        ("a Constraint with a Tag", first(element(PATTERN_EDGE, *edge, constraint(tag(1))))),
-        ("an option with an FnId", term(element(FN_ID, b"$eq"))),
-        ("a call without FnId", term(element(CALL))),
-        ("a call with its argument first", term(element(CALL, argument(tag(1)), element(FN_ID, b"$eq")))),
-        ("an argument with nothing", term(element(CALL, element(FN_ID, b"$eq"), argument(b"")))),
-        ("an argument with a Value and a Tag", term(element(CALL, element(FN_ID, b"$eq"), argument(value("x") + tag(1))))),
-        ("an argument with a call", term(element(CALL, element(FN_ID, b"$eq"), argument(call("$eq", tag(1)))))),
-        ("a TagSymbol without Identifier", model(node(0), behind=element(SYMBOL, tag(1)))),
-        ("a TagSymbol without Tag", model(node(0), behind=element(SYMBOL, element(IDENTIFIER, b"a")))),
-        ("a Value with nothing", first(value_edge(1, b""))),
-        ("a Value with two components", first(value_edge(1, component("a") + component("b")))),
-        ("a Value with an optional element after it", first(value_edge(1, component("a") + bytes.fromhex("8000")))),
-        ("a component of type 65,536", first(value_edge(1, component("a", 65536)))),
-        ("a component of type 0", first(value_edge(1, component("a", 0)))),
-        ("a component that is cut", first(value_edge(1, bytes.fromhex("080261")))),
-        ("an Identifier in the model", model(node(0), behind=rule_name("a"))),
+        ("no StartId", faulty(head[:6] + head[9:] + node(0), 6)),
+        ("no NamedPatternCnt", faulty(head[:9] + node(0), 9)),
+        ("two StartIds", faulty(head[:9] + head[6:] + node(0), 9)),
+        ("two Versions", faulty(head[:6] + head + node(0), 6)),
+        ("a wrapper around it", faulty(element(0x08, model(node(0))))),
+        ("a TagSymbol before a Node", model(symbol(1, "a"), faulty(node(0)))),
+        ("a Node without NodeId", model(element(NODE, MISSING))),
+        ("a Node with two NodeIds", model(node(0, faulty(node_id(0))))),
+        ("a Node with two Parents", model(node(0, parent(0), faulty(parent(0))))),
+        ("a Parent before the NodeId", model(element(NODE, faulty(parent(0)), node_id(0)))),
+        ("a Parent after a RuleName", first(rule_name("#a"), faulty(parent(0)))),
+        ("a ValueEdge after a PatternEdge", first(pattern_edge(1, 1), faulty(value_edge(1, "v")))),
+        ("a PatternEdge after a signer", first(signer(0), faulty(pattern_edge(1, 1)))),
+        ("a RuleName after an edge", first(value_edge(1, "v"), faulty(rule_name("#a")))),
+        ("a Node in a Node", first(faulty(node(1)))),
+        ("a ValueEdge without Value", first(element(VALUE_EDGE, edge[0], MISSING))),
+        ("a ValueEdge without destination", first(element(VALUE_EDGE, faulty(value("v"))))),
+        ("a ValueEdge turned round", first(element(VALUE_EDGE, faulty(value("v")), edge[0]))),
+        ("a ValueEdge with two Values", first(element(VALUE_EDGE, edge[0], value("v"), faulty(value("v"))))),
+        ("a PatternEdge without Tag", first(element(PATTERN_EDGE, edge[0], MISSING))),
+        ("a PatternEdge with two Tags", first(element(PATTERN_EDGE, *edge, faulty(tag(1))))),
+        ("a PatternEdge with an option", first(element(PATTERN_EDGE, *edge, faulty(option(tag(1)))))),
+        ("a Constraint with a Tag", first(element(PATTERN_EDGE, *edge, constraint(faulty(tag(1)))))),
+        ("an option with an FnId", term(faulty(element(FN_ID, b"$eq")))),
+        ("a call without FnId", term(element(CALL, MISSING))),
+        ("a call with its argument first", term(element(CALL, faulty(argument(tag(1))), element(FN_ID, b"$eq")))),
+        ("an argument with nothing", term(call("$eq", MISSING))),
+        ("an argument with a Value and a Tag", term(call("$eq", concat(value("x"), faulty(tag(1)))))),
+        ("an argument with a call", term(call("$eq", faulty(call("$eq", tag(1)))))),
+        ("a TagSymbol without Identifier", model(node(0), behind=element(SYMBOL, tag(1), MISSING))),
+        ("a TagSymbol without Tag", model(node(0), behind=element(SYMBOL, faulty(element(IDENTIFIER, b"a"))))),
+        ("a Value with nothing", first(value_edge(1, MISSING))),
+        ("a Value with two components", first(value_edge(1, concat(component("a"), faulty(component("b")))))),
+        ("a Value with an optional element after it", first(value_edge(1, concat(component("a"), faulty(bytes.fromhex("8000")))))),
+        ("a component of type 65,536", first(value_edge(1, faulty(component("a", 65536))))),
+        ("a component of type 0", first(value_edge(1, faulty(component("a", 0))))),
+        ("a component that is cut", first(value_edge(1, faulty(bytes.fromhex("080261"))))),
+        ("an Identifier in the model", model(node(0), behind=faulty(rule_name("a")))),
     )
     for what, of in wrong:
-        yield what, verdict(of), "refused 2 0"
+        yield what, verdict(of), refused_at(of)
     for text in ("", "#", "a", "#9", "##a", "#a-b", "#a ", "$a", "#\u00e4", "#a#"):
-        yield f"RuleName {text!r}", verdict(first(rule_name(text))), "refused 2 0"
+        of = first(faulty(rule_name(text)))
+        yield f"RuleName {text!r}", verdict(of), refused_at(of)
     for text in ("#_", "#a", "#Z_9"):
         yield f"RuleName {text!r}", verdict(first(rule_name(text))), "accepted 2"
     for text in ("", "9a", "#a", "a-b", "\u00e4"):
-        yield f"TagSymbol {text!r}", verdict(model(node(0), behind=symbol(1, text))), "refused 2 0"
+        of = model(node(0), behind=element(SYMBOL, tag(1), faulty(element(IDENTIFIER, text.encode()))))
+        yield f"TagSymbol {text!r}", verdict(of), refused_at(of)
     yield "TagSymbol '_9'", verdict(model(node(0), behind=symbol(1, "_9"))), "accepted 1"
     for text in ("", "$", "eq", "$9", "#eq", "$eq "):
-        yield f"FnId {text!r}", verdict(term(call(text, tag(1)))), "refused 2 0"
+        of = term(element(CALL, faulty(element(FN_ID, text.encode())), argument(tag(1))))
+        yield f"FnId {text!r}", verdict(of), refused_at(of)
     yield "no option", verdict(first(pattern_edge(1, 1, constraint()))), "accepted 2"
     yield "a component of type 65,535", verdict(first(value_edge(1, component("a", 65535)))), "accepted 2"
     yield "a component of a known type", verdict(first(value_edge(1, component("a", VALUE)))), "accepted 2"
@@ -259,35 +265,36 @@ def malformed():
 
 def forms():
     """Types and lengths are in the shortest form and within 1 to 4,294,967,295; all bytes are there."""
+    accepted, refused_there = "accepted 2", f"refused 2 {len(B)}"
     for what, spare, answer in (
-        ("an optional type of 3 bytes", "fd 0100 00", "accepted 2"),
-        ("an optional type of 5 bytes", "fe 00010000 00", "accepted 2"),
-        ("the largest optional type", "fe fffffffe 00", "accepted 2"),
-        ("the largest type is critical", "fe ffffffff 00", "refused 2 0"),
-        ("a type of 9 bytes", "ff 0000000100000000 00", "refused 2 0"),
-        ("type 0", "00 00", "refused 2 0"),
-        ("a type of 3 bytes that fits 1", "fd 0080 00", "refused 2 0"),
-        ("a type of 5 bytes that fits 3", "fe 00000100 00", "refused 2 0"),
-        ("a length of 3 bytes that fits 1", "80 fd 0000", "refused 2 0"),
-        ("a length of 5 bytes that fits 3", "80 fe 00000100" + "00" * 256, "refused 2 0"),
-        ("a length of 9 bytes that fits 5", "80 ff 0000000000010000", "refused 2 0"),
-        ("a length of 9 bytes", "80 ff 0000000100000000", "refused 2 0"),
-        ("the largest length", "80 ff ffffffffffffffff", "refused 2 0"),
-        ("a cut type", "fd 01", "refused 2 0"),
-        ("a cut length", "80 fd 01", "refused 2 0"),
-        ("a cut inside", "80 02 00", "refused 2 0"),
-        ("type 32", "20 00", "accepted 2"),
-        ("type 30", "1e 00", "refused 2 0"),
-        ("type 31", "1f 00", "refused 2 0"),
-        ("type 33 without its place", "21 00", "refused 2 0"),
-        ("type 34", "22 00", "accepted 2"),
-        ("type 37", "25 00", "refused 2 0"),
-        ("type 252", "fc 00", "accepted 2"),
-        ("an inside that is no element", "80 03 00ffff", "accepted 2"),
+        ("an optional type of 3 bytes", "fd 0100 00", accepted),
+        ("an optional type of 5 bytes", "fe 00010000 00", accepted),
+        ("the largest optional type", "fe fffffffe 00", accepted),
+        ("the largest type is critical", "fe ffffffff 00", refused_there),
+        ("a type of 9 bytes", "ff 0000000100000000 00", refused_there),
+        ("type 0", "00 00", refused_there),
+        ("a type of 3 bytes that fits 1", "fd 0080 00", refused_there),
+        ("a type of 5 bytes that fits 3", "fe 00000100 00", refused_there),
+        ("a length of 3 bytes that fits 1", "80 fd 0000", refused_there),
+        ("a length of 5 bytes that fits 3", "80 fe 00000100" + "00" * 256, refused_there),
+        ("a length of 9 bytes that fits 5", "80 ff 0000000000010000", refused_there),
+        ("a length of 9 bytes", "80 ff 0000000100000000", refused_there),
+        ("the largest length", "80 ff ffffffffffffffff", refused_there),
+        ("a cut type", "fd 01", refused_there),
+        ("a cut length", "80 fd 01", refused_there),
+        ("a cut inside", "80 02 00", refused_there),
+        ("type 32", "20 00", accepted),
+        ("type 30", "1e 00", refused_there),
+        ("type 31", "1f 00", refused_there),
+        ("type 33 without its place", "21 00", refused_there),
+        ("type 34", "22 00", accepted),
+        ("type 37", "25 00", refused_there),
+        ("type 252", "fc 00", accepted),
+        ("an inside that is no element", "80 03 00ffff", accepted),
     ):
         yield what, verdict(B + bytes.fromhex(spare)), answer
     # an element ends within the one around it, though the model goes on
-    yield "an optional element past its Node", verdict(model(node(0, b"\x80\x01"), node(1))), "refused 2 0"
+    yield "an optional element past its Node", verdict(model(node(0, b"\x80\x01"), node(1))), "refused 2 17"
 
 
 def names():
@@ -314,7 +321,7 @@ def names():
         inside = component("a", typ)
         yield f"a component of type {typ}", match(B, name(inside), OLD), matched(1, (1, 2, len(inside)))
     # the model is tested before the names
-    yield "a malformed model and names", sign(B[:-1], b"", b""), "refused 2 0"
+    yield "a malformed model and names", sign(B[:-1], b"", b""), "refused 2 25"
 
 
 def cases():

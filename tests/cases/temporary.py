@@ -21,7 +21,7 @@ NO_MATCH = kept("no match")
 def with_count(of, count, size=None, before=b"", behind=b""):
     """The same model with another count, in `size` bytes, and what stands before and behind it."""
     assert of[9:11] == bytes([PATTERN_COUNT, 1])
-    return of[:9] + before + integer(PATTERN_COUNT, count, size) + behind + of[12:]
+    return concat(of[:9], before, integer(PATTERN_COUNT, count, size), behind, of[12:])
 
 
 def walked(at, uri, tags, count):
@@ -430,13 +430,14 @@ def gaps():
         around = with_count(B, count, before=bytes.fromhex("80002200"), behind=bytes.fromhex(count_inside * 2))
         yield from answers_of_b(f"two before and two behind count {count}", around, count)
         for spare in CRITICAL:
-            data = bytes.fromhex(spare)
+            data = faulty(bytes.fromhex(spare))
             for where, of in ("before", with_count(B, count, before=data)), ("behind", with_count(B, count, behind=data)):
-                yield from all_three(f"{spare} {where} count {count}", of, "refused 2 0")
-                yield f"{spare} {where} count {count}", suggest(of, SLASH_A, SLASH_A), "refused 2 0"
-        yield from all_three(f"a second count behind {count}", with_count(B, count, behind=integer(PATTERN_COUNT, 0)), "refused 2 0")
+                yield from all_three(f"{spare} {where} count {count}", of, refused_at(of))
+                yield f"{spare} {where} count {count}", suggest(of, SLASH_A, SLASH_A), refused_at(of)
+        of = with_count(B, count, behind=faulty(integer(PATTERN_COUNT, 0)))
+        yield from all_three(f"a second count behind {count}", of, refused_at(of))
     for size in (0, 3, 5, 6, 7, 9):
-        yield f"a count of {size} bytes", verdict(B[:9] + element(PATTERN_COUNT, bytes(size)) + B[12:]), "refused 2 0"
+        yield f"a count of {size} bytes", verdict(B[:9] + element(PATTERN_COUNT, bytes(size)) + B[12:]), "refused 2 9"
     # every container, with its Tag temporary: /v/w matches Node 2, and the Constraints are those of gaps.py
     temporary = with_count(FULL, 0)
     yield "no optional element", match(temporary, PACKET, OLD), matched(2)
@@ -471,7 +472,8 @@ def unchanged():
         for rule, faults in FAULTS.items():
             nodes = ring()
             faults[0][1](nodes, 2)
-            yield f"rule {rule}, count {count}", verdict(ring_model(nodes, patterns=count)), refused(rule, 2)
+            of = ring_model(nodes, patterns=count)
+            yield f"rule {rule}, count {count}", verdict(of), refused(rule, 2, of)
     for what, symbols in (
         ("none", ()),
         ("of the temporary Tag", ((1, "x"),)),

@@ -157,7 +157,7 @@ def mistakes():
 
 
 def refused():
-    """(text, refusal number, node, [(line, what)])."""
+    """(text, the refusal's two numbers, [(line, what)]). The place of 2 counts in the bytes that would be written."""
     head = "start 0\npatterns 0\n"
     letters = "(a letter or _, then letters, digits or _)"
     for length in (32768, 65000):
@@ -165,12 +165,12 @@ def refused():
     lines = [(4, f"rule top: 'top' is not a rule name, # and an identifier {letters}")]
     lines += [(5, f"rule #a-b: '#a-b' is not a rule name, # and an identifier {letters}")]
     lines += [(6, f"symbol 1 #x: '#x' is not a symbol, an identifier {letters}")]
-    yield f"{head}node 0\nrule top\n  rule #a-b // x\nsymbol 1 #x", 2, 0, lines
+    yield f"{head}node 0\nrule top\n  rule #a-b // x\nsymbol 1 #x", 2, 17, lines
     edge = f"{head}node 0\nparent 0\nedge tag 1 to 0\nconstraint\n"
     lines = [(7, f"option eq(tag 1): 'eq' is not a function's name, $ and an identifier {letters}")]
-    yield edge + "option eq(tag 1)", 2, 0, lines
+    yield edge + "option eq(tag 1)", 2, 34, lines
     lines = [(4, f"rule #é%FF: '#é\\udcff' is not a rule name, # and an identifier {letters}")]
-    yield f"{head}node 0\nrule #é\udcff", 2, 0, lines
+    yield f"{head}node 0\nrule #é\udcff", 2, 17, lines
     yield head + "".join(f"node {i}\n" for i in range(257)), 4, 0, []
     tags = "edge tag 0 to 0\nconstraint\noption tag 129 $eq(tag 128)\nsymbol 500 a"
     yield f"{head}node 0\nparent 0\n{tags}\n", 5, 0, [(5, "edge tag 0 to 0"), (7, "option tag 129 $eq(tag 128)"), (8, "symbol 500 a")]

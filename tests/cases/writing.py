@@ -20,7 +20,7 @@ class Part(NamedTuple):
 def joined(parts):
     """(numbers, texts, data) of parts that follow one another."""
     parts = list(parts)
-    return [n for part in parts for n in part.numbers], b"".join(p.texts for p in parts), b"".join(p.data for p in parts)
+    return [n for part in parts for n in part.numbers], b"".join(p.texts for p in parts), concat(*(p.data for p in parts))
 
 
 def counted(parts):
@@ -40,8 +40,13 @@ def raw(text):
     return text if isinstance(text, bytes) else text.encode()
 
 
+def bad(text):
+    """A text that is not of its form."""
+    return faulty(raw(text))
+
+
 def a_text(typ, text):
-    return Part([len(raw(text))], raw(text), element(typ, raw(text)))
+    return Part([len(raw(text))], raw(text), plain(typ, raw(text)))
 
 
 def a_number(typ, n):
@@ -49,8 +54,9 @@ def a_number(typ, n):
 
 
 def a_component(text, typ=GENERIC):
-    """A Value, without the kind of a term."""
-    return Part([typ, len(raw(text))], raw(text), value(component(raw(text), typ)))
+    """A Value, without the kind of a term. A type outside of a component's is a fault at the component's start."""
+    inside = component(raw(text), typ)
+    return Part([typ, len(raw(text))], raw(text), value(inside if 1 <= typ <= 65535 else faulty(inside)))
 
 
 def of_kind(kind, part):
@@ -99,7 +105,7 @@ def a_symbol(n, text):
 def a_model(*nodes, start=0, patterns=0, symbols=()):
     head = a_number(NODE_ID, start), a_number(PATTERN_COUNT, patterns)
     numbers, texts, data = joined([*head, counted(nodes), counted(symbols)])
-    return Part(numbers, texts, element(VERSION, GOOD_VERSION.to_bytes(4, "big")) + data)
+    return Part(numbers, texts, concat(element(VERSION, GOOD_VERSION.to_bytes(4, "big")), data))
 
 
 # what is lent, and lines
@@ -272,14 +278,18 @@ def refused_descriptions():
     yield "longer than 32,768 bytes", long_text, "refused 1 0"
     yield "longer, and a rule name without #", a_model(a_node(0, 0, ["x"], values=[an_edge(0, bytes(32768))])), "refused 1 0"
     for text in ("", "#", "a", "#9", "#a-b", "##a", b"#\xc3\xa9"):
-        yield f"rule name {text!r}", node_with(rules=[text]), "refused 2 0"
+        of = node_with(rules=[bad(text)])
+        yield f"rule name {text!r}", of, refused_at(of.data)
     for text in ("", "9", "#a", "a b"):
-        yield f"symbol {text!r}", a_model(a_node(0), symbols=[a_symbol(1, text)]), "refused 2 0"
+        of = a_model(a_node(0), symbols=[a_symbol(1, bad(text))])
+        yield f"symbol {text!r}", of, refused_at(of.data)
     for text in ("", "$", "eq", "#eq", "$9"):
-        yield f"function {text!r}", a_term(a_call(text, a_tag(1))), "refused 2 0"
+        of = a_term(a_call(bad(text), a_tag(1)))
+        yield f"function {text!r}", of, refused_at(of.data)
     for typ in (0, 65536, 2**32 - 1, 2**32, 2**64 - 1):
-        yield f"a component of type {typ}", node_with(values=[an_edge(0, "x", typ)]), "refused 2 0"
-        yield f"an option of type {typ}", a_term(a_value("x", typ)), "refused 2 0"
+        edge, term = node_with(values=[an_edge(0, "x", typ)]), a_term(a_value("x", typ))
+        yield f"a component of type {typ}", edge, refused_at(edge.data)
+        yield f"an option of type {typ}", term, refused_at(term.data)
     yield "257 Nodes", a_model(*(a_node(i) for i in range(257))), "refused 4 0"
     for n in (0, 129, 2**32 + 1):
         yield f"Tag {n} on an edge", node_with(patterns=[a_pattern(0, n)]), "refused 5 0"
@@ -305,7 +315,8 @@ def refused_descriptions():
     yield "$isValidID with two", a_term(a_call("$isValidID", a_tag(1), a_value("x"))), "refused 12 0"
     # the lower number first
     yield "5 before 6", a_model(a_node(7, 7, patterns=[a_pattern(0, 0)])), "refused 5 0"
-    yield "2 before 4", a_model(*(a_node(i, rules=["x"]) for i in range(257))), "refused 2 0"
+    of = a_model(*(a_node(i, rules=[bad("x")]) for i in range(257)))
+    yield "2 before 4", of, refused_at(of.data)
     yield "9 at the first of two Nodes", a_model(a_node(0), a_node(1, signers=[5]), a_node(2, signers=[5])), "refused 9 1"
 
 
@@ -347,7 +358,7 @@ def lists():
                 yield from not_described(f"{what}, {size} bytes of texts", of.data, "refused 30 0", n, size)
             yield from not_described(f"{what}, both one short", of.data, "refused 30 0", n - 1, m - 1)
     for what, of, answer in (
-        ("a malformed model", B[:-1], "refused 2 0"),
+        ("a malformed model", B[:-1], "refused 2 25"),
         ("no model", b"", "refused 2 0"),
         ("another version", OTHER_VERSION_CUT, "refused 3 0"),
         ("32,769 bytes", padded(A, 32769), "refused 1 0"),
