@@ -2,6 +2,7 @@
 from bench import A, B, B_PARENT_1, EMPTY, OTHER_VERSION_CUT, SLASH_A, SLASH_B
 from build import *
 from document_003 import QUICK, QUICK_CHECKS, TUTORIAL, TUTORIAL_CHECKS
+from places import by_hand, long_file
 from temporary import QUICK_SHARED, TUTORIAL_SHARED, with_count
 
 
@@ -29,6 +30,8 @@ def models():
     ):
         # a refused model ends the program: requests are not answered
         yield what, of, GOOD, line
+    for what, of in [*by_hand(), *list(long_file())[::9]]:
+        yield what, of, GOOD, f"model refused 2 at {of.place}\n"
     yield "32,768 bytes", padded(B, 32768), GOOD, HEAD + FIRST
     yield "one Node", A, request(EMPTY, EMPTY), "model 1 nodes\n1 not allowed\n"
 
