@@ -7,6 +7,7 @@ use std::borrow::Cow;
 use std::fmt::Display;
 use std::io::{self, Read, Write};
 
+use crate::elements::Part;
 use crate::names::{single_component, OwnedComponent};
 use crate::{
     compare_components, describe, find_certificate, match_name, sign, verdict, write_model,
@@ -261,7 +262,7 @@ fn read_field(input: &mut impl Read, limit: usize) -> Result<Vec<u8>, Broken> {
 /// Reads a field that is one component.
 fn read_component(input: &mut impl Read) -> Result<OwnedComponent, Broken> {
     let bytes = read_field(input, MAX_COMPONENT_FIELD)?;
-    let component = single_component(&bytes).map_err(|_| Broken)?;
+    let component = single_component(Part::whole(&bytes)).map_err(|_| Broken)?;
     Ok(component.into())
 }
 

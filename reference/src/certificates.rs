@@ -3,7 +3,7 @@
 use std::fmt;
 
 use crate::answers::{sign_loaded, SignAnswer};
-use crate::elements::Element;
+use crate::elements::{Element, Part};
 use crate::names::{Name, Role};
 use crate::verdict::{load, Reason, Refusal};
 
@@ -55,7 +55,7 @@ fn cut(list: &[u8]) -> Result<Vec<&[u8]>, Refusal> {
         if entries.len() == MAX_ENTRIES {
             return Err(Reason::TooManyEntries.into());
         }
-        let behind = Element::read(rest).map_or(&[][..], |(_, behind)| behind);
+        let behind = Element::read(Part::whole(rest)).map_or(&[][..], |(_, behind)| behind.bytes);
         entries.push(&rest[..rest.len() - behind.len()]);
         rest = behind;
     }

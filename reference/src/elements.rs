@@ -48,47 +48,93 @@ pub mod kind {
     pub const NAME: u32 = 7;
 }
 
-/// The bytes keep no rule of the format.
+/// The bytes keep no rule of the format. The place is the first fault's, counted
+/// from the first byte of all that is read.
 #[derive(Clone, Copy, Debug, PartialEq, Eq)]
-pub struct Malformed;
+pub struct Malformed {
+    pub place: usize,
+}
 
-/// One element: its type and the bytes of its value.
+/// Some of the bytes that are read, and where they start among all of them.
+#[derive(Clone, Copy, Debug, PartialEq, Eq)]
+pub struct Part<'a> {
+    pub start: usize,
+    pub bytes: &'a [u8],
+}
+
+impl<'a> Part<'a> {
+    pub fn whole(bytes: &'a [u8]) -> Self {
+        Part { start: 0, bytes }
+    }
+
+    pub fn end(self) -> usize {
+        self.start + self.bytes.len()
+    }
+
+    pub fn is_empty(self) -> bool {
+        self.bytes.is_empty()
+    }
+
+    /// So many bytes from the front, and those behind them.
+    fn split_at(self, length: usize) -> Option<(Self, Self)> {
+        let (front, rest) = self.bytes.split_at_checked(length)?;
+        let at = |start, bytes| Part { start, bytes };
+        Some((at(self.start, front), at(self.start + length, rest)))
+    }
+}
+
+/// One element: where it starts, its type and its value.
 #[derive(Clone, Copy, Debug, PartialEq, Eq)]
 pub struct Element<'a> {
+    pub start: usize,
     pub kind: u32,
-    pub value: &'a [u8],
+    pub value: Part<'a>,
 }
 
 impl<'a> Element<'a> {
-    /// Reads the element at the start of `bytes`; also gives the bytes behind it.
-    pub fn read(bytes: &'a [u8]) -> Result<(Self, &'a [u8]), Malformed> {
-        let (kind, rest) = read_number(bytes)?;
+    /// Reads the element at the start of a part; also gives what is behind it.
+    /// All that can be wrong here is its header's fault.
+    pub fn read(part: Part<'a>) -> Result<(Self, Part<'a>), Malformed> {
+        Element::read_whole(part).ok_or(Malformed { place: part.start })
+    }
+
+    fn read_whole(part: Part<'a>) -> Option<(Self, Part<'a>)> {
+        let (kind, rest) = read_number(part)?;
         let (length, rest) = read_number(rest)?;
-        let kind = u32::try_from(kind).map_err(|_| Malformed)?;
-        if kind == 0 {
-            return Err(Malformed);
-        }
-        let length = usize::try_from(length).map_err(|_| Malformed)?;
-        let (value, rest) = rest.split_at_checked(length).ok_or(Malformed)?;
-        Ok((Element { kind, value }, rest))
+        let kind = u32::try_from(kind).ok().filter(|&kind| kind > 0)?;
+        let (value, rest) = rest.split_at(usize::try_from(length).ok()?)?;
+        let start = part.start;
+        Some((Element { start, kind, value }, rest))
+    }
+
+    /// Where the element ends.
+    pub fn end(self) -> usize {
+        self.value.end()
+    }
+
+    /// The fault of this element itself, not of one inside it.
+    pub fn malformed(self) -> Malformed {
+        Malformed { place: self.start }
+    }
+
+    /// What its plain bytes say, read by a function that knows their form.
+    pub fn plain<T>(self, read: impl Fn(&'a [u8]) -> Option<T>) -> Result<T, Malformed> {
+        read(self.value.bytes).ok_or(self.malformed())
     }
 }
 
 /// Reads a type or length number in its shortest form.
-fn read_number(bytes: &[u8]) -> Result<(u64, &[u8]), Malformed> {
-    let (&first, rest) = bytes.split_first().ok_or(Malformed)?;
-    let (width, least) = match first {
+fn read_number(part: Part<'_>) -> Option<(u64, Part<'_>)> {
+    let (first, rest) = part.split_at(1)?;
+    let (width, least) = match first.bytes[0] {
         253 => (2, 253),
         254 => (4, 1 << 16),
         255 => (8, 1 << 32),
-        number => return Ok((number.into(), rest)),
+        number => return Some((number.into(), rest)),
     };
-    let (digits, rest) = rest.split_at_checked(width).ok_or(Malformed)?;
-    let number = big_endian(digits);
-    if number < least {
-        return Err(Malformed);
-    }
-    Ok((number, rest))
+    let (digits, rest) = rest.split_at(width)?;
+    let number = big_endian(digits.bytes);
+    (number >= least).then_some((number, rest))
 }
 
 /// The number whose digits to base 256 are `digits`, high byte first.
@@ -99,11 +145,8 @@ fn big_endian(digits: &[u8]) -> u64 {
 }
 
 /// An integer value: 1, 2, 4 or 8 bytes, not necessarily the fewest.
-pub fn integer(value: &[u8]) -> Result<u64, Malformed> {
-    match value.len() {
-        1 | 2 | 4 | 8 => Ok(big_endian(value)),
-        _ => Err(Malformed),
-    }
+pub fn integer(value: &[u8]) -> Option<u64> {
+    matches!(value.len(), 1 | 2 | 4 | 8).then(|| big_endian(value))
 }
 
 /// Whether a model gives this type a meaning.
@@ -136,15 +179,15 @@ pub fn is_container(kind: u32) -> bool {
     )
 }
 
-/// The elements of a slice, one after the other; ends after the first fault.
+/// The elements of a part, one after the other; ends after the first fault.
 #[derive(Clone, Debug)]
 pub struct Elements<'a> {
-    rest: &'a [u8],
+    rest: Part<'a>,
 }
 
 impl<'a> Elements<'a> {
-    pub fn new(bytes: &'a [u8]) -> Self {
-        Elements { rest: bytes }
+    pub fn new(part: Part<'a>) -> Self {
+        Elements { rest: part }
     }
 }
 
@@ -155,56 +198,54 @@ impl<'a> Iterator for Elements<'a> {
         if self.rest.is_empty() {
             return None;
         }
-        match Element::read(self.rest) {
-            Ok((element, rest)) => {
-                self.rest = rest;
-                Some(Ok(element))
-            }
-            Err(fault) => {
-                self.rest = &[];
-                Some(Err(fault))
-            }
-        }
+        let read = Element::read(self.rest);
+        self.rest = read.map_or(Part::whole(&[]), |(_, rest)| rest);
+        Some(read.map(|(element, _)| element))
     }
 }
 
 /// What a model or one of its containers holds, with optional elements passed
-/// over. Nothing is read before it is asked for.
+/// over. Nothing is read before it is asked for, so faults come up in the order
+/// of the bytes if each element's inside is read before the next is asked for.
 #[derive(Clone, Debug)]
 pub struct Contents<'a> {
-    rest: &'a [u8],
+    rest: Part<'a>,
 }
 
 impl<'a> Contents<'a> {
-    pub fn new(bytes: &'a [u8]) -> Self {
-        Contents { rest: bytes }
+    pub fn new(part: Part<'a>) -> Self {
+        Contents { rest: part }
     }
 
     /// Takes the next element if it is of the given type.
-    pub fn take(&mut self, kind: u32) -> Result<Option<&'a [u8]>, Malformed> {
+    pub fn take(&mut self, kind: u32) -> Result<Option<Element<'a>>, Malformed> {
         match self.peek()? {
             Some((element, rest)) if element.kind == kind => {
                 self.rest = rest;
-                Ok(Some(element.value))
+                Ok(Some(element))
             }
             _ => Ok(None),
         }
     }
 
     /// Takes the next element, which must be of the given type.
-    pub fn expect(&mut self, kind: u32) -> Result<&'a [u8], Malformed> {
-        self.take(kind)?.ok_or(Malformed)
+    pub fn expect(&mut self, kind: u32) -> Result<Element<'a>, Malformed> {
+        let element = self.expect_any()?;
+        if element.kind != kind {
+            return Err(element.malformed());
+        }
+        Ok(element)
     }
 
     /// Takes all elements of the given type that come next.
     pub fn take_all<T>(
         &mut self,
         kind: u32,
-        parse: impl Fn(&'a [u8]) -> Result<T, Malformed>,
+        parse: impl Fn(Element<'a>) -> Result<T, Malformed>,
     ) -> Result<Vec<T>, Malformed> {
         let mut all = Vec::new();
-        while let Some(value) = self.take(kind)? {
-            all.push(parse(value)?);
+        while let Some(element) = self.take(kind)? {
+            all.push(parse(element)?);
         }
         Ok(all)
     }
@@ -217,16 +258,23 @@ impl<'a> Contents<'a> {
         }))
     }
 
+    /// Takes the next element, of whatever type. One that is missing is missed
+    /// at the end.
+    pub fn expect_any(&mut self) -> Result<Element<'a>, Malformed> {
+        let place = self.rest.end();
+        self.take_any()?.ok_or(Malformed { place })
+    }
+
     /// Nothing but optional elements may be left.
     pub fn finish(mut self) -> Result<(), Malformed> {
         match self.peek()? {
-            Some(_) => Err(Malformed),
+            Some((element, _)) => Err(element.malformed()),
             None => Ok(()),
         }
     }
 
-    /// The next element that isn't optional and the bytes behind it.
-    fn peek(&mut self) -> Result<Option<(Element<'a>, &'a [u8])>, Malformed> {
+    /// The next element that isn't optional and what is behind it.
+    fn peek(&mut self) -> Result<Option<(Element<'a>, Part<'a>)>, Malformed> {
         while !self.rest.is_empty() {
             let (element, rest) = Element::read(self.rest)?;
             if !is_optional(element.kind) {
@@ -310,7 +358,11 @@ mod tests {
             (&[255, 0, 0, 0, 1, 0, 0, 0, 0], 1 << 32),
         ];
         for (bytes, number) in good {
-            assert_eq!(read_number(bytes), Ok((number, &[][..])));
+            let (read, rest) = read_number(Part::whole(bytes)).unwrap();
+            assert_eq!(
+                (read, rest.start, rest.bytes),
+                (number, bytes.len(), &[][..])
+            );
             let mut written = Vec::new();
             append_number(&mut written, number);
             assert_eq!(written, bytes);
@@ -326,38 +378,56 @@ mod tests {
             &[255],
         ];
         for bytes in bad {
-            assert_eq!(read_number(bytes), Err(Malformed));
+            assert_eq!(read_number(Part::whole(bytes)), None);
         }
+    }
+
+    /// The type of the element that the bytes begin with.
+    fn kind_of(bytes: &[u8]) -> Result<u32, Malformed> {
+        Element::read(Part::whole(bytes)).map(|(element, _)| element.kind)
     }
 
     #[test]
     fn types_run_from_1_to_32_bits() {
-        assert_eq!(Element::read(&[0, 0]), Err(Malformed));
-        let largest = [254, 255, 255, 255, 255, 0];
-        assert_eq!(Element::read(&largest).map(|(e, _)| e.kind), Ok(u32::MAX));
+        let malformed = Err(Malformed { place: 0 });
+        assert_eq!(kind_of(&[0, 0]), malformed);
+        assert_eq!(kind_of(&[254, 255, 255, 255, 255, 0]), Ok(u32::MAX));
         for low in [0, 8] {
             let above = [255, 0, 0, 0, 1, 0, 0, 0, low, 0];
-            assert_eq!(Element::read(&above), Err(Malformed));
+            assert_eq!(kind_of(&above), malformed);
         }
     }
 
     #[test]
     fn a_length_past_the_end_is_malformed() {
-        assert_eq!(Element::read(&[8, 1]), Err(Malformed));
+        let malformed = Err(Malformed { place: 0 });
+        assert_eq!(kind_of(&[8, 1]), malformed);
         let huge = [8, 255, 255, 255, 255, 255, 255, 255, 255, 255];
-        assert_eq!(Element::read(&huge), Err(Malformed));
+        assert_eq!(kind_of(&huge), malformed);
         let low_bits_fit = [8, 255, 0, 0, 0, 1, 0, 0, 0, 1, 97];
-        assert_eq!(Element::read(&low_bits_fit), Err(Malformed));
+        assert_eq!(kind_of(&low_bits_fit), malformed);
+    }
+
+    #[test]
+    fn elements_know_their_places() {
+        let bytes = [0x80, 1, 9, 253, 1, 1, 2, 8, 0, 8];
+        let elements: Vec<_> = Elements::new(Part::whole(&bytes)).collect();
+        let places = elements.iter().map(|read| {
+            let element = read.as_ref().map_err(|fault| fault.place)?;
+            Ok((element.start, element.value.start, element.end()))
+        });
+        let places: Vec<_> = places.collect();
+        assert_eq!(places, [Ok((0, 2, 3)), Ok((3, 7, 9)), Err(9)]);
     }
 
     #[test]
     fn integers_have_four_widths() {
-        assert_eq!(integer(&[7]), Ok(7));
-        assert_eq!(integer(&[0, 7]), Ok(7));
-        assert_eq!(integer(&[0, 0, 1, 0]), Ok(256));
-        assert_eq!(integer(&[255; 8]), Ok(u64::MAX));
+        assert_eq!(integer(&[7]), Some(7));
+        assert_eq!(integer(&[0, 7]), Some(7));
+        assert_eq!(integer(&[0, 0, 1, 0]), Some(256));
+        assert_eq!(integer(&[255; 8]), Some(u64::MAX));
         for length in [0, 3, 5, 6, 7, 9] {
-            assert_eq!(integer(&vec![0; length]), Err(Malformed));
+            assert_eq!(integer(&vec![0; length]), None);
         }
     }
 
@@ -366,7 +436,7 @@ mod tests {
         let written = |number: u64| {
             let mut out = Vec::new();
             append_integer(&mut out, kind::TAG, number);
-            assert_eq!(integer(&out[2..]), Ok(number));
+            assert_eq!(integer(&out[2..]), Some(number));
             (out[0], out[1], out.len())
         };
         for (number, width) in [
@@ -411,9 +481,24 @@ mod tests {
 
     #[test]
     fn contents_are_read_only_when_asked_for() {
-        let mut contents = Contents::new(&[0x80, 1, 9, 0x23, 1, 5, 0x25]);
+        let bytes = [0x80, 1, 9, 0x23, 1, 5, 0x25];
+        let mut contents = Contents::new(Part::whole(&bytes));
         assert_eq!(contents.take(kind::NODE_ID), Ok(None));
-        assert_eq!(contents.expect(kind::TAG), Ok(&[5][..]));
-        assert_eq!(contents.take_any(), Err(Malformed));
+        let tag = contents.expect(kind::TAG).unwrap();
+        assert_eq!((tag.start, tag.value.bytes), (3, &[5][..]));
+        assert_eq!(contents.take_any(), Err(Malformed { place: 6 }));
+    }
+
+    #[test]
+    fn an_element_is_missed_at_the_end_and_another_is_wrong_at_its_start() {
+        let part = |bytes| Contents::new(Part { start: 10, bytes });
+        let place = |bytes| part(bytes).expect(kind::TAG).unwrap_err().place;
+        assert_eq!(place(&[]), 10);
+        assert_eq!(place(&[0x80, 1, 9]), 13);
+        assert_eq!(place(&[0x80, 1, 9, 0x25, 0]), 13);
+        assert_eq!(place(&[0x80, 2, 9]), 10);
+        let left = |bytes| part(bytes).finish().unwrap_err().place;
+        assert_eq!(left(&[0x80, 0, 0x80, 0, 0x81, 0]), 14);
+        assert_eq!(part(&[0x80, 0]).finish(), Ok(()));
     }
 }

@@ -12,7 +12,7 @@ impl Model<'_> {
     /// The bytes of the model, whether or not they can be read again.
     pub fn encode(&self) -> Vec<u8> {
         let mut out = Vec::new();
-        let version = (SUPPORTED_VERSION as u32).to_be_bytes();
+        let version = SUPPORTED_VERSION.to_be_bytes();
         append_element(&mut out, kind::VERSION, &version);
         append_integer(&mut out, kind::NODE_ID, self.start);
         append_integer(

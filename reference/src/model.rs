@@ -1,10 +1,10 @@
 //! The compiled model as structs, and its reader.
 
-use crate::elements::{integer, kind, Contents, Malformed};
+use crate::elements::{integer, kind, Contents, Element, Malformed, Part};
 use crate::names::{single_component, Component};
 
 /// The only version that is understood.
-pub const SUPPORTED_VERSION: u64 = 0x0001_1000;
+pub const SUPPORTED_VERSION: u32 = 0x0001_1000;
 
 /// A whole model.
 #[derive(Clone, Debug)]
@@ -154,7 +154,7 @@ impl<'a> Model<'a> {
 
     /// Reads a model; its numbers and counts are not tested.
     pub fn parse(bytes: &'a [u8]) -> Result<Self, Unreadable> {
-        let mut contents = Contents::new(bytes);
+        let mut contents = Contents::new(Part::whole(bytes));
         test_version(contents.expect(kind::VERSION)?)?;
         Ok(parse_behind_version(contents)?)
     }
@@ -163,21 +163,19 @@ impl<'a> Model<'a> {
 /// Why a model can't be read.
 #[derive(Clone, Copy, Debug, PartialEq, Eq)]
 pub enum Unreadable {
-    Malformed,
+    Malformed(Malformed),
     UnsupportedVersion,
 }
 
 impl From<Malformed> for Unreadable {
-    fn from(Malformed: Malformed) -> Self {
-        Unreadable::Malformed
+    fn from(fault: Malformed) -> Self {
+        Unreadable::Malformed(fault)
     }
 }
 
-fn test_version(value: &[u8]) -> Result<(), Unreadable> {
-    if value.len() != 4 {
-        return Err(Unreadable::Malformed);
-    }
-    if integer(value)? != SUPPORTED_VERSION {
+fn test_version(version: Element) -> Result<(), Unreadable> {
+    let number = version.plain(|value| <[u8; 4]>::try_from(value).ok())?;
+    if u32::from_be_bytes(number) != SUPPORTED_VERSION {
         return Err(Unreadable::UnsupportedVersion);
     }
     Ok(())
@@ -185,8 +183,8 @@ fn test_version(value: &[u8]) -> Result<(), Unreadable> {
 
 fn parse_behind_version(mut contents: Contents<'_>) -> Result<Model<'_>, Malformed> {
     let model = Model {
-        start: integer(contents.expect(kind::NODE_ID)?)?,
-        named_pattern_count: integer(contents.expect(kind::NAMED_PATTERN_COUNT)?)?,
+        start: parse_integer(contents.expect(kind::NODE_ID)?)?,
+        named_pattern_count: parse_integer(contents.expect(kind::NAMED_PATTERN_COUNT)?)?,
         nodes: contents.take_all(kind::NODE, parse_node)?,
         tag_symbols: contents.take_all(kind::TAG_SYMBOL, parse_tag_symbol)?,
     };
@@ -194,113 +192,116 @@ fn parse_behind_version(mut contents: Contents<'_>) -> Result<Model<'_>, Malform
     Ok(model)
 }
 
-fn parse_node(value: &[u8]) -> Result<Node<'_>, Malformed> {
-    let mut contents = Contents::new(value);
+fn parse_node(node: Element<'_>) -> Result<Node<'_>, Malformed> {
+    let mut contents = Contents::new(node.value);
     let node = Node {
-        id: integer(contents.expect(kind::NODE_ID)?)?,
-        parent: contents.take(kind::PARENT)?.map(integer).transpose()?,
+        id: parse_integer(contents.expect(kind::NODE_ID)?)?,
+        parent: contents
+            .take(kind::PARENT)?
+            .map(parse_integer)
+            .transpose()?,
         rule_names: contents.take_all(kind::IDENTIFIER, parse_rule_name)?,
         value_edges: contents.take_all(kind::VALUE_EDGE, parse_value_edge)?,
         pattern_edges: contents.take_all(kind::PATTERN_EDGE, parse_pattern_edge)?,
-        signers: contents.take_all(kind::SIGN_CONSTRAINT, integer)?,
+        signers: contents.take_all(kind::SIGN_CONSTRAINT, parse_integer)?,
     };
     contents.finish()?;
     Ok(node)
 }
 
-fn parse_value_edge(value: &[u8]) -> Result<ValueEdge<'_>, Malformed> {
-    let mut contents = Contents::new(value);
+fn parse_value_edge(edge: Element<'_>) -> Result<ValueEdge<'_>, Malformed> {
+    let mut contents = Contents::new(edge.value);
     let edge = ValueEdge {
-        destination: integer(contents.expect(kind::NODE_ID)?)?,
-        value: single_component(contents.expect(kind::VALUE)?)?,
+        destination: parse_integer(contents.expect(kind::NODE_ID)?)?,
+        value: single_component(contents.expect(kind::VALUE)?.value)?,
     };
     contents.finish()?;
     Ok(edge)
 }
 
-fn parse_pattern_edge(value: &[u8]) -> Result<PatternEdge<'_>, Malformed> {
-    let mut contents = Contents::new(value);
+fn parse_pattern_edge(edge: Element<'_>) -> Result<PatternEdge<'_>, Malformed> {
+    let mut contents = Contents::new(edge.value);
     let edge = PatternEdge {
-        destination: integer(contents.expect(kind::NODE_ID)?)?,
-        tag: integer(contents.expect(kind::TAG)?)?,
+        destination: parse_integer(contents.expect(kind::NODE_ID)?)?,
+        tag: parse_integer(contents.expect(kind::TAG)?)?,
         constraints: contents.take_all(kind::CONSTRAINT, parse_constraint)?,
     };
     contents.finish()?;
     Ok(edge)
 }
 
-fn parse_constraint(value: &[u8]) -> Result<Constraint<'_>, Malformed> {
-    let mut contents = Contents::new(value);
+fn parse_constraint(constraint: Element<'_>) -> Result<Constraint<'_>, Malformed> {
+    let mut contents = Contents::new(constraint.value);
     let options = contents.take_all(kind::CONSTRAINT_OPTION, parse_option)?;
     contents.finish()?;
     Ok(Constraint { options })
 }
 
-fn parse_option(value: &[u8]) -> Result<ConstraintOption<'_>, Malformed> {
-    let mut contents = Contents::new(value);
+fn parse_option(option: Element<'_>) -> Result<ConstraintOption<'_>, Malformed> {
+    let mut contents = Contents::new(option.value);
     let mut terms = Vec::new();
     while let Some(element) = contents.take_any()? {
         terms.push(match element.kind {
             kind::VALUE => Term::Value(single_component(element.value)?),
-            kind::TAG => Term::Tag(integer(element.value)?),
-            kind::USER_FN_CALL => Term::Call(parse_call(element.value)?),
-            _ => return Err(Malformed),
+            kind::TAG => Term::Tag(parse_integer(element)?),
+            kind::USER_FN_CALL => Term::Call(parse_call(element)?),
+            _ => return Err(element.malformed()),
         });
     }
     Ok(ConstraintOption { terms })
 }
 
-fn parse_call(value: &[u8]) -> Result<Call<'_>, Malformed> {
-    let mut contents = Contents::new(value);
+fn parse_call(call: Element<'_>) -> Result<Call<'_>, Malformed> {
+    let mut contents = Contents::new(call.value);
     let name = contents.expect(kind::FN_ID)?;
-    test_prefixed_identifier(name, b'$')?;
+    let name = name.plain(|text| prefixed_identifier(text, b'$'))?;
     let arguments = contents.take_all(kind::USER_FN_ARG, parse_argument)?;
     contents.finish()?;
     Ok(Call::new(name, arguments))
 }
 
-fn parse_argument(value: &[u8]) -> Result<Argument<'_>, Malformed> {
-    let mut contents = Contents::new(value);
-    let element = contents.take_any()?.ok_or(Malformed)?;
+fn parse_argument(argument: Element<'_>) -> Result<Argument<'_>, Malformed> {
+    let mut contents = Contents::new(argument.value);
+    let element = contents.expect_any()?;
     let argument = match element.kind {
         kind::VALUE => Argument::Value(single_component(element.value)?),
-        kind::TAG => Argument::Tag(integer(element.value)?),
-        _ => return Err(Malformed),
+        kind::TAG => Argument::Tag(parse_integer(element)?),
+        _ => return Err(element.malformed()),
     };
     contents.finish()?;
     Ok(argument)
 }
 
-fn parse_tag_symbol(value: &[u8]) -> Result<TagSymbol<'_>, Malformed> {
-    let mut contents = Contents::new(value);
+fn parse_tag_symbol(symbol: Element<'_>) -> Result<TagSymbol<'_>, Malformed> {
+    let mut contents = Contents::new(symbol.value);
     let symbol = TagSymbol {
-        tag: integer(contents.expect(kind::TAG)?)?,
-        identifier: contents.expect(kind::IDENTIFIER)?,
+        tag: parse_integer(contents.expect(kind::TAG)?)?,
+        identifier: contents.expect(kind::IDENTIFIER)?.plain(identifier)?,
     };
     contents.finish()?;
-    test_identifier(symbol.identifier)?;
     Ok(symbol)
 }
 
-fn parse_rule_name(value: &[u8]) -> Result<&[u8], Malformed> {
-    test_prefixed_identifier(value, b'#')?;
-    Ok(value)
+fn parse_rule_name(name: Element<'_>) -> Result<&[u8], Malformed> {
+    name.plain(|text| prefixed_identifier(text, b'#'))
 }
 
-fn test_prefixed_identifier(text: &[u8], prefix: u8) -> Result<(), Malformed> {
-    match text.split_first() {
-        Some((&first, identifier)) if first == prefix => test_identifier(identifier),
-        _ => Err(Malformed),
-    }
+fn parse_integer(element: Element) -> Result<u64, Malformed> {
+    element.plain(integer)
 }
 
-fn test_identifier(text: &[u8]) -> Result<(), Malformed> {
+/// The whole text if it is the prefix and an identifier.
+fn prefixed_identifier(text: &[u8], prefix: u8) -> Option<&[u8]> {
+    let (&first, rest) = text.split_first()?;
+    (first == prefix && identifier(rest).is_some()).then_some(text)
+}
+
+/// The text if it is an identifier.
+fn identifier(text: &[u8]) -> Option<&[u8]> {
     let begins = |byte: u8| byte == b'_' || byte.is_ascii_alphabetic();
     let continues = |byte: u8| begins(byte) || byte.is_ascii_digit();
-    match text.split_first() {
-        Some((&first, rest)) if begins(first) && rest.iter().copied().all(continues) => Ok(()),
-        _ => Err(Malformed),
-    }
+    let (&first, rest) = text.split_first()?;
+    (begins(first) && rest.iter().copied().all(continues)).then_some(text)
 }
 
 #[cfg(test)]
@@ -310,19 +311,16 @@ mod tests {
     #[test]
     fn identifiers() {
         for text in ["a", "_", "Z9_", "_0", "KEY"] {
-            assert!(test_identifier(text.as_bytes()).is_ok(), "{text}");
+            assert_eq!(identifier(text.as_bytes()), Some(text.as_bytes()));
         }
         for text in [
             "", "9", "a-b", "a b", "é", "#a", "a/", "@", "[", "`", "{", "a:", "a\0",
         ] {
-            assert!(test_identifier(text.as_bytes()).is_err(), "{text}");
+            assert_eq!(identifier(text.as_bytes()), None, "{text}");
         }
-        assert!(test_prefixed_identifier(b"#a", b'#').is_ok());
+        assert_eq!(prefixed_identifier(b"#a", b'#'), Some(&b"#a"[..]));
         for text in ["", "#", "a", "$a", "##a", "#9"] {
-            assert!(
-                test_prefixed_identifier(text.as_bytes(), b'#').is_err(),
-                "{text}"
-            );
+            assert_eq!(prefixed_identifier(text.as_bytes(), b'#'), None, "{text}");
         }
     }
 

@@ -1,6 +1,6 @@
 //! Names and their components.
 
-use crate::elements::{append_element, kind, Element, Elements, Malformed};
+use crate::elements::{append_element, kind, Element, Malformed, Part};
 use crate::verdict::{Reason, Refusal};
 
 /// The longest name, in bytes of the whole element.
@@ -20,10 +20,10 @@ impl<'a> TryFrom<Element<'a>> for Component<'a> {
     type Error = Malformed;
 
     fn try_from(element: Element<'a>) -> Result<Self, Malformed> {
-        let kind = u16::try_from(element.kind).map_err(|_| Malformed)?;
+        let kind = u16::try_from(element.kind).map_err(|_| element.malformed())?;
         Ok(Component {
             kind: kind.into(),
-            value: element.value,
+            value: element.value.bytes,
         })
     }
 }
@@ -119,7 +119,7 @@ impl<'a> Name<'a> {
         if bytes.len() > MAX_NAME_BYTES {
             return Err(role.too_long().into());
         }
-        let name = Name::parse(bytes).map_err(|Malformed| role.malformed())?;
+        let name = Name::parse(bytes).map_err(|_| role.malformed())?;
         if name.components.len() > MAX_COMPONENTS {
             return Err(role.too_many_components().into());
         }
@@ -128,9 +128,9 @@ impl<'a> Name<'a> {
 
     /// Reads a name of any size.
     fn parse(bytes: &'a [u8]) -> Result<Self, Malformed> {
-        let (name, rest) = Element::read(bytes)?;
+        let (name, rest) = Element::read(Part::whole(bytes))?;
         if name.kind != kind::NAME || !rest.is_empty() {
-            return Err(Malformed);
+            return Err(name.malformed());
         }
         let mut components = Vec::new();
         let mut inside = name.value;
@@ -138,8 +138,8 @@ impl<'a> Name<'a> {
             let (element, behind) = Element::read(inside)?;
             components.push(PlacedComponent {
                 component: element.try_into()?,
-                start: (bytes.len() - inside.len()) as u32,
-                length: (inside.len() - behind.len()) as u32,
+                start: element.start as u32,
+                length: (element.end() - element.start) as u32,
             });
             inside = behind;
         }
@@ -147,14 +147,16 @@ impl<'a> Name<'a> {
     }
 }
 
-/// The single component that a Value holds.
-pub fn single_component(bytes: &[u8]) -> Result<Component<'_>, Malformed> {
-    let mut elements = Elements::new(bytes);
-    let component = elements.next().ok_or(Malformed)??.try_into()?;
-    match elements.next() {
-        Some(_) => Err(Malformed),
-        None => Ok(component),
+/// The single component that a Value holds. Where there is none, it is missing
+/// at the Value's end, which is also where its inside starts.
+pub fn single_component(inside: Part<'_>) -> Result<Component<'_>, Malformed> {
+    let (element, behind) = Element::read(inside)?;
+    let component = element.try_into()?;
+    if !behind.is_empty() {
+        let place = behind.start;
+        return Err(Malformed { place });
     }
+    Ok(component)
 }
 
 #[cfg(test)]
@@ -219,10 +221,17 @@ mod tests {
 
     #[test]
     fn a_value_holds_one_component() {
-        assert!(single_component(&[8, 0]).is_ok());
-        assert_eq!(single_component(&[]), Err(Malformed));
-        assert_eq!(single_component(&[8, 0, 8, 0]), Err(Malformed));
-        assert_eq!(single_component(&[8, 0, 8]), Err(Malformed));
-        assert_eq!(single_component(&[254, 0, 1, 0, 0, 0]), Err(Malformed));
+        let place = |bytes| match single_component(Part { start: 10, bytes }) {
+            Ok(_) => None,
+            Err(fault) => Some(fault.place),
+        };
+        assert_eq!(place(&[8, 0]), None);
+        assert_eq!(place(&[]), Some(10));
+        assert_eq!(place(&[8, 1, 97, 8, 0]), Some(13));
+        assert_eq!(place(&[8, 0, 8]), Some(12));
+        assert_eq!(place(&[8, 0, 128, 0]), Some(12));
+        for own_fault in [&[8, 1][..], &[0, 0, 8], &[254, 0, 1, 0, 0, 0, 8]] {
+            assert_eq!(place(own_fault), Some(10));
+        }
     }
 }

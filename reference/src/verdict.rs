@@ -42,7 +42,8 @@ pub enum Reason {
     TooManyEntries = 33,
 }
 
-/// A refusal: its reason and the index of the first node or entry at fault, or 0.
+/// A refusal: its reason and the index of the first node or entry at fault. Of a
+/// malformed model it is the place of its first fault, otherwise 0.
 #[derive(Clone, Copy, Debug, PartialEq, Eq)]
 pub struct Refusal {
     pub reason: Reason,
@@ -113,7 +114,10 @@ pub fn load_readable(bytes: &[u8]) -> Result<Model<'_>, Refusal> {
         return Err(Reason::ModelTooLong.into());
     }
     Model::parse(bytes).map_err(|fault| match fault {
-        Unreadable::Malformed => Reason::ModelMalformed.into(),
+        Unreadable::Malformed(fault) => Refusal {
+            reason: Reason::ModelMalformed,
+            index: fault.place,
+        },
         Unreadable::UnsupportedVersion => Reason::UnsupportedVersion.into(),
     })
 }

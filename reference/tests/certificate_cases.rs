@@ -8,7 +8,7 @@ use std::ops::ControlFlow;
 
 use build::*;
 use lvs_reference::cases::{Case, MAX_LIST_FIELD, MAX_MODEL_FIELD, MAX_NAME_FIELD};
-use lvs_reference::elements::{Element, Elements};
+use lvs_reference::elements::{Element, Elements, Part};
 use lvs_reference::gen::certificate_case;
 use lvs_reference::names::{Name, Role};
 use lvs_reference::verdict::load;
@@ -55,9 +55,9 @@ fn cases_fit_their_form() {
 /// The elements that a list begins with, and whether something else is behind.
 fn cut(list: &[u8]) -> (Vec<Vec<u8>>, bool) {
     let mut entries = Vec::new();
-    for entry in Elements::new(list) {
+    for entry in Elements::new(Part::whole(list)) {
         match entry {
-            Ok(entry) => entries.push(element(entry.kind as usize, entry.value)),
+            Ok(entry) => entries.push(element(entry.kind as usize, entry.value.bytes)),
             Err(_) => return (entries, true),
         }
     }
@@ -252,8 +252,8 @@ fn refuses_entry(model: &[u8], packet: &[u8], list: &[u8], index: usize) -> Vec<
 
 /// The element with the type of a name.
 fn as_name(entry: &[u8]) -> Vec<u8> {
-    let (entry, _) = Element::read(entry).unwrap();
-    element(7, entry.value)
+    let (entry, _) = Element::read(Part::whole(entry)).unwrap();
+    element(7, entry.value.bytes)
 }
 
 /// What is worth seeing often in cases of accepted models and packet names.

@@ -294,7 +294,7 @@ fn types_of_components() {
         (1 << 32) + 8,
         u64::MAX,
     ] {
-        assert_eq!(refused(&with_type(kind), b"v"), "refused 2 0", "{kind}");
+        assert_eq!(refused(&with_type(kind), b"v"), "refused 2 27", "{kind}");
     }
 }
 
@@ -302,11 +302,11 @@ fn types_of_components() {
 fn texts_that_are_no_names() {
     let rule_name = |text: &[u8]| refused(&[0, 0, 1, 0, 0, 1, text.len() as u64, 0, 0, 0, 0], text);
     for text in [&b""[..], b"#", b"a", b"$a", b"#9", b"##a", b"#a-"] {
-        assert_eq!(rule_name(text), "refused 2 0");
+        assert_eq!(rule_name(text), "refused 2 17");
     }
     let symbol = |text: &[u8]| refused(&[0, 0, 0, 1, 1, text.len() as u64], text);
     for text in [&b""[..], b"#a", b"9", b"a b"] {
-        assert_eq!(symbol(text), "refused 2 0");
+        assert_eq!(symbol(text), "refused 2 17");
     }
     assert_eq!(symbol(b"a"), "refused 7 0");
     let function = |text: &[u8]| {
@@ -314,7 +314,7 @@ fn texts_that_are_no_names() {
         refused(&[&head[..], &[text.len() as u64, 0, 0, 0]].concat(), text)
     };
     for text in [&b""[..], b"$", b"eq", b"#eq", b"$9"] {
-        assert_eq!(function(text), "refused 2 0");
+        assert_eq!(function(text), "refused 2 34");
     }
     assert_eq!(function(b"$other"), "refused 12 0");
 }
@@ -391,7 +391,7 @@ fn room_for_the_output() {
 #[test]
 fn refusals_of_the_description_go_before_the_output() {
     assert_eq!(written_into(0, &[], b"").0, "refused 30 0");
-    assert_eq!(written_into(0, &with_type(0), b"v").0, "refused 2 0");
+    assert_eq!(written_into(0, &with_type(0), b"v").0, "refused 2 27");
     assert_eq!(written_into(3, &[1, 0, 0, 0], b"").0, "refused 7 0");
     assert_eq!(written_into(0, &with_type(8), b"v").0, "refused 31 0");
 }

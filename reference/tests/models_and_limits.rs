@@ -62,13 +62,13 @@ fn model_b_with(kind: u8) -> Vec<u8> {
 fn model_b_with_an_optional_and_a_critical_element() {
     assert_answers_of_b(&model_b_with(0x80));
     let model = model_b_with(0x81);
-    assert_eq!(judged(&model), "refused 2 0");
+    assert_eq!(judged(&model), "refused 2 17");
     let (answer, words) = matched(&model, &hex(NAME_A));
-    assert_eq!(answer.to_string(), "refused 2 0");
+    assert_eq!(answer.to_string(), "refused 2 17");
     assert_eq!(words, [9; 256]);
     assert_eq!(
         sign(&model, &hex(NAME_A), &hex(NAME_A)).to_string(),
-        "refused 2 0"
+        "refused 2 17"
     );
 }
 
@@ -76,7 +76,7 @@ fn model_b_with_an_optional_and_a_critical_element() {
 fn model_a_altered() {
     let mut cut = hex(MODEL_A);
     cut.pop();
-    assert_eq!(judged(&cut), "refused 2 0");
+    assert_eq!(judged(&cut), "refused 2 12");
     cut[5] = 1;
     assert_eq!(judged(&cut), "refused 3 0");
     let mut other_start = hex(MODEL_A);

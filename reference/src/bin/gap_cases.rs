@@ -3,8 +3,9 @@
 //! For each generated case whose model is read, of each of the four calls: the
 //! case itself, the same with its bare model, with an optional element in each
 //! gap, with a critical one in each gap (in a model with many, evenly spread),
-//! and with another version. Cases go to standard output, and the lines that
-//! they must get to the file LINES.
+//! which is refused at the place where it starts, and with another version.
+//! Cases go to standard output, and the lines that they must get to the file
+//! LINES.
 //! Arguments: seed, number of generated cases, LINES.
 
 use std::env;
@@ -13,9 +14,9 @@ use std::io::{self, BufWriter, Write};
 use std::process::ExitCode;
 
 use lvs_reference::cases::Case;
-use lvs_reference::elements::{append_element, kind, Element};
+use lvs_reference::elements::{append_element, kind, Elements, Part};
 use lvs_reference::gen::{self, critical_kind, optional_kind, Random};
-use lvs_reference::{bare, gaps, insert_element};
+use lvs_reference::{bare, gaps, insert_element, Gap};
 
 const MAX_MODEL: usize = 32_768;
 /// In models with more gaps every second, third .. of them is taken.
@@ -74,24 +75,40 @@ fn variants(case: &Case, random: &mut Random) -> Vec<(Case, String)> {
     let mut made = vec![
         (case.clone(), same.clone()),
         (with_model(case, bare_model), same.clone()),
-        (with_model(case, other_version(model)), refused(case, 3)),
+        (with_model(case, other_version(model)), refused(case, 3, 0)),
     ];
     let step = all_gaps.len().div_ceil(MAX_GAPS);
     for gap in all_gaps.iter().step_by(step) {
-        for (kind, line) in [
-            (optional_kind(random), same.clone()),
-            (critical_kind(random), refused(case, 2)),
+        let optional = unknown_element(random, optional_kind);
+        let critical = unknown_element(random, critical_kind);
+        let with_optional = insert_element(model, gap, &optional);
+        let with_critical = insert_element(model, gap, &critical);
+        let place = place_of_inserted(model, gap, &critical, &with_critical);
+        for (longer, line) in [
+            (with_optional, same.clone()),
+            (with_critical, refused(case, 2, place)),
         ] {
-            let length = random.below(5);
-            let mut element = Vec::new();
-            append_element(&mut element, kind, &random.bytes(length));
-            let longer = insert_element(model, gap, &element);
             if longer.len() <= MAX_MODEL {
                 made.push((with_model(case, longer), line));
             }
         }
     }
     made
+}
+
+fn unknown_element(random: &mut Random, kind: impl Fn(&mut Random) -> u32) -> Vec<u8> {
+    let kind = kind(random);
+    let length = random.below(5);
+    let mut element = Vec::new();
+    append_element(&mut element, kind, &random.bytes(length));
+    element
+}
+
+/// Where the element starts that was put in a gap: the lengths that were written
+/// anew are all in front of it, so what is behind it is as long as before.
+fn place_of_inserted(model: &[u8], gap: &Gap, element: &[u8], longer: &[u8]) -> usize {
+    let behind = model.len() - gap.offset;
+    longer.len() - behind - element.len()
 }
 
 /// The model that a call reads.
@@ -128,9 +145,9 @@ fn line_of(case: &Case) -> String {
         .to_owned()
 }
 
-/// The line of a call that refuses with this number, and keeps its words.
-fn refused(case: &Case, number: u32) -> String {
-    let mut line = format!("refused {number} 0");
+/// The line of a call that refuses with these numbers, and keeps its words.
+fn refused(case: &Case, number: u32, place: usize) -> String {
+    let mut line = format!("refused {number} {place}");
     if let Case::Match { words, .. } = case {
         line.extend(words.iter().map(|word| format!(" {word}")));
     }
@@ -139,15 +156,11 @@ fn refused(case: &Case, number: u32) -> String {
 
 /// The last byte of the Version changed.
 fn other_version(model: &[u8]) -> Vec<u8> {
-    let mut rest = model;
-    loop {
-        let (element, behind) = Element::read(rest).expect("a model that is read has a Version");
-        rest = behind;
-        if element.kind == kind::VERSION {
-            break;
-        }
-    }
+    let version = Elements::new(Part::whole(model))
+        .map_while(Result::ok)
+        .find(|element| element.kind == kind::VERSION)
+        .expect("a model that is read has a Version");
     let mut changed = model.to_vec();
-    changed[model.len() - rest.len() - 1] ^= 1;
+    changed[version.end() - 1] ^= 1;
     changed
 }

@@ -9,7 +9,7 @@ use super::work::{self, Models};
 use crate::answers::{sign_loaded, SignAnswer};
 use crate::cases::{Case, MAX_LIST_FIELD};
 use crate::certificates::MAX_ENTRIES;
-use crate::elements::{kind, Element};
+use crate::elements::{kind, Element, Part};
 use crate::model::Model;
 use crate::names::{Name, Role};
 
@@ -66,6 +66,11 @@ const BAD_KEY_STYLES: [(usize, Style); 3] = [
 pub fn certificate_case(seed: u64, index: u64) -> Case {
     let random = &mut Random::for_case(seed ^ STREAM, index);
     let sample = mostly_sound_model(random);
+    find_in_sample(random, sample)
+}
+
+/// A call that looks for a certificate by this model.
+pub fn find_in_sample(random: &mut Random, sample: Sample) -> Case {
     let models = Models::of(&sample);
     let signing = Signing::new(random, &models.source);
     let mut packet = signing.packet_name(random, &PACKET_STYLES);
@@ -275,7 +280,8 @@ impl Entries {
 
 /// Something that is no key name, mostly made from one.
 fn bad_entry(random: &mut Random, pool: &Pool, entry: &[u8]) -> Vec<u8> {
-    let inside = Element::read(entry).map_or(entry, |(element, _)| element.value);
+    let whole = Part::whole(entry);
+    let inside = Element::read(whole).map_or(entry, |(element, _)| element.value.bytes);
     let mut element = Tree::leaf(kind::NAME, inside);
     match random.below(200) {
         0 => element = long_element(random),

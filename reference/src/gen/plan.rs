@@ -69,7 +69,7 @@ pub struct SymbolPlan {
 impl Plan {
     pub fn new() -> Self {
         Plan {
-            version: (SUPPORTED_VERSION as u32).to_be_bytes().to_vec(),
+            version: SUPPORTED_VERSION.to_be_bytes().to_vec(),
             start: 0,
             named_pattern_count: 0,
             nodes: Vec::new(),
