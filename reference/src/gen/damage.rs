@@ -41,7 +41,7 @@ pub fn critical_kind(random: &mut Random) -> u32 {
 }
 
 /// Bytes that nobody reads, though they may look like elements.
-fn inside(random: &mut Random) -> Vec<u8> {
+pub fn inside(random: &mut Random) -> Vec<u8> {
     match random.below(8) {
         0..=2 => Vec::new(),
         3 => vec![kind::TAG as u8, 1, 0],

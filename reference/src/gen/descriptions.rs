@@ -312,26 +312,32 @@ fn crowded_plan(random: &mut Random) -> Plan {
 }
 
 fn describe_case(random: &mut Random) -> Case {
-    let (model, needed) = model_and_lists(random);
+    if random.below(400) == 0 {
+        let plan = crowded_plan(random);
+        let lists = MarkedLists::of(&plan).plain();
+        let model = write(random, &plan);
+        return with_lent_lists(random, model, lists);
+    }
+    let sample = sample(random);
+    describe_sample(random, sample)
+}
+
+/// A call that describes this model, with lists for its description or for that
+/// of the model that it was made from.
+pub fn describe_sample(random: &mut Random, sample: Sample) -> Case {
+    let Sample { sound, bytes } = sample;
+    let model = load(&bytes).or_else(|_| load(&sound));
+    let lists = model.expect("sound models are accepted").to_lists();
+    with_lent_lists(random, bytes, lists)
+}
+
+fn with_lent_lists(random: &mut Random, model: Vec<u8>, needed: Lists) -> Case {
     let (numbers, texts) = list_lengths(random, needed.numbers.len(), needed.texts.len());
     Case::Describe {
         model,
         numbers: list_of_numbers(random, numbers.min(MAX_NUMBERS)),
         texts: random.bytes(texts.min(MAX_TEXTS_FIELD)),
     }
-}
-
-/// A model and its description, or that of the model that it was made from.
-fn model_and_lists(random: &mut Random) -> (Vec<u8>, Lists) {
-    if random.below(400) == 0 {
-        let plan = crowded_plan(random);
-        let lists = MarkedLists::of(&plan).plain();
-        return (write(random, &plan), lists);
-    }
-    let Sample { sound, bytes } = sample(random);
-    let model = load(&bytes).or_else(|_| load(&sound));
-    let lists = model.expect("sound models are accepted").to_lists();
-    (bytes, lists)
 }
 
 /// The lengths of both lists, given how many are to be filled.

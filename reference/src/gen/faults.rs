@@ -74,7 +74,7 @@ const BAD_BYTES: [u8; 16] = [
 ];
 
 /// What isn't the prefix and an identifier.
-fn bad_identifier(random: &mut Random, prefix: &str) -> Vec<u8> {
+pub fn bad_identifier(random: &mut Random, prefix: &str) -> Vec<u8> {
     let mut text = prefix.as_bytes().to_vec();
     match random.below(6) {
         0 => {}
@@ -285,7 +285,7 @@ fn spoil_call(random: &mut Random, plan: &mut Plan) {
 }
 
 /// Adds an option to one of the model's edges.
-fn add_option(random: &mut Random, plan: &mut Plan, terms: Vec<TermPlan>) {
+pub fn add_option(random: &mut Random, plan: &mut Plan, terms: Vec<TermPlan>) {
     let in_new_constraint = random.chance(50);
     let place = random.number() as usize;
     let constraints = &mut pattern_edge(random, plan).constraints;

@@ -26,6 +26,8 @@ pub enum Form {
     WideLength(usize),
     /// A length that isn't the content's.
     OtherLength(u64),
+    /// No header: bytes that are no whole element.
+    Missing,
 }
 
 /// Which lists of elements are meant.
@@ -54,19 +56,26 @@ impl Tree {
         }
     }
 
-    fn append_to(&self, out: &mut Vec<u8>) {
-        let content = match &self.content {
+    /// The bytes of its content.
+    pub fn encode_content(&self) -> Vec<u8> {
+        match &self.content {
             Content::Bytes(bytes) => bytes.clone(),
             Content::Nested(elements) => encode(elements),
-        };
+        }
+    }
+
+    fn append_to(&self, out: &mut Vec<u8>) {
+        let content = self.encode_content();
         let length = content.len() as u64;
         match self.form {
             Form::WideType(width) => append_wide(out, self.kind, width),
+            Form::Missing => {}
             _ => append_number(out, self.kind),
         }
         match self.form {
             Form::WideLength(width) => append_wide(out, length, width),
             Form::OtherLength(other) => append_number(out, other),
+            Form::Missing => {}
             _ => append_number(out, length),
         }
         out.extend(content);
@@ -134,4 +143,21 @@ pub fn nth_list(list: &mut Vec<Tree>, number: usize, scope: Scope) -> &mut Vec<T
         left -= count;
     }
     unreachable!("there are as many lists as were counted")
+}
+
+/// The types of the elements around all lists, in the order of the lists'
+/// numbers; the outermost has `None`.
+pub fn owners(list: &[Tree], scope: Scope) -> Vec<Option<u64>> {
+    let mut all = vec![None];
+    collect_owners(list, scope, &mut all);
+    all
+}
+
+fn collect_owners(list: &[Tree], scope: Scope, all: &mut Vec<Option<u64>>) {
+    for tree in list {
+        if let Some(inside) = tree.inside(scope) {
+            all.push(Some(tree.kind));
+            collect_owners(inside, scope, all);
+        }
+    }
 }
