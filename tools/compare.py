@@ -5,18 +5,21 @@ usage: compare.py [CASES [SEED]]
        compare.py --descriptions [CASES [SEED]]
        compare.py --certificates [CASES [SEED]]
        compare.py --components [CASES [SEED]]
+       compare.py --damaged [CASES [SEED]]
 
 CASES cases (default 100,000) in batches of 20,000, one seed each, beginning with SEED (default 1). In each batch
 - lvs_cases must print the reference's line for every case;
 - lvs_cases must print the reference's line for half as many cases of gen_descriptions, which write (W) and describe (D) models,
   for a quarter as many of gen_certificates, which look for a certificate in a list (C), and of gen_components, which compare two
-  components (E);
+  components (E), and for half as many of gen_damaged, whose models are damaged, so that most are refused with 2 at some place;
 - lvs_check must print the reference's lines for the first signing cases, given the model as its file;
 - the cases of gap_cases (optional and critical elements in gaps, other versions) must get their lines.
-With --descriptions only cases of gen_descriptions are compared, CASES of them in batches of 10,000, one seed each; with --certificates
-only those of gen_certificates, and with --components only those of gen_components, in batches of 5,000.
+With --descriptions only cases of gen_descriptions are compared, CASES of them in batches of 10,000, one seed each, and with --damaged
+only those of gen_damaged; with --certificates only those of gen_certificates, and with --components only those of gen_components, in
+batches of 5,000.
 A difference is printed with its program, seed and index, and e.g. `gen_cases SEED 1 INDEX` writes that case alone.
-The last lines say how often each answer came up, with the letter W, D, C or E before those that are not of gen_cases.
+The last lines say how often each answer came up, with the letter before those that are not of gen_cases, then how many different
+places refusal 2 named in each kind of cases.
 """
 import collections
 import itertools
@@ -32,7 +35,7 @@ OURS = ROOT / "target/bin"
 REFERENCE = ROOT / "reference/target/release"
 BATCH = 20_000
 # what follows the cases of gen_cases in a batch: the program gen_NAME and how many of its cases; --NAME compares them alone
-MORE = {"descriptions": BATCH // 2, "certificates": BATCH // 4, "components": BATCH // 4}
+MORE = {"descriptions": BATCH // 2, "certificates": BATCH // 4, "components": BATCH // 4, "damaged": BATCH // 2}
 RUNS = 100  # of lvs_check, in a batch
 LIMIT = 2048  # lvs_check's, for the length of a name
 FIELDS = {b"V": 1, b"M": 3, b"S": 3, b"W": 3, b"D": 3, b"C": 3, b"E": 2}
@@ -102,8 +105,27 @@ def compare_checker(file, expected, folder):
 
 def kind(line):
     """What a line is counted as."""
-    words = line.split()
+    words = line.split(maxsplit=2)
     return " ".join(words[:2]) if words[0] in ("refused", "no", "not") else words[0]
+
+
+class Tally:
+    """How often each answer came up, and at which places models were malformed."""
+
+    def __init__(self):
+        self.answers = collections.Counter()
+        self.places = collections.defaultdict(collections.Counter)
+
+    def add(self, program, letter, line):
+        self.answers[letter, kind(line)] += 1
+        if line.startswith("refused 2 "):
+            self.places[program][line.split(maxsplit=3)[2]] += 1
+
+    def print(self):
+        for letter, answer in sorted(self.answers, key=in_order):
+            print(f"{self.answers[letter, answer]:>10} {letter}{answer}")
+        for program, places in sorted(self.places.items()):
+            print(f"{program}: {places.total()} malformed models, {len(places)} different places")
 
 
 def report(what, seed, ours, expected):
@@ -127,20 +149,23 @@ def compare_cases(program, seed, count, folder):
     return cases, expected, report(program, seed, lines_of(OURS / "lvs_cases", cases), expected)
 
 
-def compare_more(name, seed, count, folder, answers):
+def compare_more(name, seed, count, folder, tally):
     """Compares cases of gen_NAME and counts their answers by letter. Answers how many there were, and the differences."""
-    cases, expected, wrong = compare_cases("gen_" + name, seed, count, folder)
-    answers.update((letter.decode() + " ", kind(line)) for (letter, _), line in zip(cases_of(cases), expected))
+    program = "gen_" + name
+    cases, expected, wrong = compare_cases(program, seed, count, folder)
+    for (letter, _), line in zip(cases_of(cases), expected):
+        tally.add(program, letter.decode() + " ", line)
     return len(expected), wrong
 
 
-def compare_batch(seed, count, folder, answers):
+def compare_batch(seed, count, folder, tally):
     gaps, lines = folder / "gaps", folder / "lines"
     cases, expected, wrong = compare_cases("gen_cases", seed, count, folder)
-    answers.update(("", kind(line)) for line in expected)
+    for line in expected:
+        tally.add("gen_cases", "", line)
     made = {"cases": len(expected)}
     for name, in_batch in MORE.items():
-        made[f"of {name}"], bad = compare_more(name, seed, count * in_batch // BATCH, folder, answers)
+        made[f"of {name}"], bad = compare_more(name, seed, count * in_batch // BATCH, folder, tally)
         wrong += bad
     made["runs of lvs_check"], bad = compare_checker(cases, expected, folder)
     generate(gaps, "gap_cases", seed, count // 100, lines)
@@ -153,8 +178,8 @@ def compare_batch(seed, count, folder, answers):
 
 def compare_only(name):
     """A batch that has only cases of gen_NAME."""
-    def compare(seed, count, folder, answers):
-        made, wrong = compare_more(name, seed, count, folder, answers)
+    def compare(seed, count, folder, tally):
+        made, wrong = compare_more(name, seed, count, folder, tally)
         print(f"seed {seed}: {made} cases of {name}, {wrong} differences", flush=True)
         return made, wrong
     return compare
@@ -178,15 +203,14 @@ def main():
     count = int(arguments[0]) if arguments else 100_000
     seed = int(arguments[1]) if len(arguments) > 1 else 1
     build_reference()
-    answers = collections.Counter()
+    tally = Tally()
     calls = wrong = 0
     with tempfile.TemporaryDirectory() as folder:
         while count > 0:
-            made, bad = compare(seed, min(count, batch), pathlib.Path(folder), answers)
+            made, bad = compare(seed, min(count, batch), pathlib.Path(folder), tally)
             calls, wrong = calls + made, wrong + bad
             count, seed = count - batch, seed + 1
-    for letter, answer in sorted(answers, key=in_order):
-        print(f"{answers[letter, answer]:>10} {letter}{answer}")
+    tally.print()
     print(f"{calls} comparisons, {wrong} differences")
     return 1 if wrong or not calls else 0
 

@@ -62,8 +62,12 @@ fn damaged_sample(random: &mut Random) -> Sample {
     }
     let whole = encode(&trees);
     let mut bytes = match random.below(20) {
-        0..=13 => {
+        0..=12 => {
             damage_elements(random, &mut trees);
+            encode(&trees)
+        }
+        13 => {
+            trees.truncate(random.below(4));
             encode(&trees)
         }
         14..=16 => with_altered_bytes(random, whole),
@@ -76,7 +80,7 @@ fn damaged_sample(random: &mut Random) -> Sample {
             splice(random, &whole, &other)
         }
     };
-    if random.chance(6) {
+    if random.chance(8) {
         bytes = behind_padding(random, &bytes);
     }
     bytes.truncate(MAX_MODEL_FIELD);
@@ -163,14 +167,20 @@ fn behind_padding(random: &mut Random, bytes: &[u8]) -> Vec<u8> {
     padded
 }
 
+/// Damages one list of elements or several, at times the same one twice: only
+/// the first fault counts.
 fn damage_elements(random: &mut Random, trees: &mut Vec<Tree>) {
-    let count = random.weighted(&[(72, 1), (22, 2), (6, 3)]);
+    let count = random.weighted(&[(75, 1), (20, 2), (5, 3)]);
     for _ in 0..count {
         let (owner, list) = any_list(random, trees);
-        if owner == Some(kind::VALUE.into()) {
-            damage_value(random, list);
+        let damage = if owner == Some(kind::VALUE.into()) {
+            damage_value
         } else {
-            damage_list(random, list);
+            damage_list
+        };
+        damage(random, list);
+        if random.chance(20) {
+            damage(random, list);
         }
     }
 }
@@ -211,7 +221,12 @@ fn damage_list(random: &mut Random, list: &mut Vec<Tree>) {
         0 | 1 => {
             list.remove(index);
         }
-        2 => list.truncate(index),
+        2 => {
+            list.truncate(index);
+            if random.chance(40) {
+                list.push(Tree::leaf(optional_kind(random), inside(random)));
+            }
+        }
         3 => {
             let other = random.below(list.len());
             list.swap(index, other);
