@@ -77,9 +77,16 @@ impl<'a> Part<'a> {
 
     /// So many bytes from the front, and those behind them.
     fn split_at(self, length: usize) -> Option<(Self, Self)> {
-        let (front, rest) = self.bytes.split_at_checked(length)?;
-        let at = |start, bytes| Part { start, bytes };
-        Some((at(self.start, front), at(self.start + length, rest)))
+        let bytes = self.bytes.get(..length)?;
+        Some((Part { bytes, ..self }, self.behind(length)))
+    }
+
+    /// What is behind so many bytes, which must be there.
+    fn behind(self, length: usize) -> Self {
+        Part {
+            start: self.start + length,
+            bytes: &self.bytes[length..],
+        }
     }
 }
 
@@ -125,14 +132,13 @@ impl<'a> Element<'a> {
 
 /// Reads a type or length number in its shortest form.
 fn read_number(part: Part<'_>) -> Option<(u64, Part<'_>)> {
-    let (first, rest) = part.split_at(1)?;
-    let (width, least) = match first.bytes[0] {
+    let (width, least) = match *part.bytes.first()? {
         253 => (2, 253),
         254 => (4, 1 << 16),
         255 => (8, 1 << 32),
-        number => return Some((number.into(), rest)),
+        number => return Some((number.into(), part.behind(1))),
     };
-    let (digits, rest) = rest.split_at(width)?;
+    let (digits, rest) = part.behind(1).split_at(width)?;
     let number = big_endian(digits.bytes);
     (number >= least).then_some((number, rest))
 }
