@@ -115,7 +115,7 @@ FILES = {
 NOT_A_NAME = "malformed: it is not one name element with nothing but components in it"
 REFUSED = {
     1: "refused 1: the model is longer than 32,768 bytes",
-    2: "refused 2: the model is malformed: its bytes are not the elements of an LVS model, or not in their order",
+    2: "refused 2 at byte 605: the model is malformed: its bytes are not the elements of an LVS model, or not in their order",
     3: "refused 3: the model has another version of the format than 0x00011000",
     4: "refused 4: the model has more than 256 nodes",
     5: "refused 5: a tag in the model is 0 or above 128",
@@ -155,7 +155,7 @@ def judge_runs():
     yield Run(["judge", "a.lvs"], 0, "accepted: 1 node\n")
     yield Run(["judge", "longest.lvs"], 0, "accepted: 1 node\n")
     yield Run(["judge", "-"], 0, "accepted: 2 nodes\n", given=B)
-    yield Run(["judge", "-"], 2, REFUSED[2] + "\n")
+    yield Run(["judge", "-"], 2, refused_words(2, 0) + "\n")
     yield Run(["judge", "--json", "example.lvs"], 0, '{"answer": "accepted", "nodes": 29}\n')
     for number in range(1, 13):
         yield Run(["judge", f"r{number}.lvs"], 2, REFUSED[number] + "\n")
@@ -643,7 +643,7 @@ def show_runs():
     numbers += [2, 1, 0, 0, 0, 1, 4, 3, 2, 0, 2, 1, 2, 3, 1, 1, 1, 1, 2, 8, 1, 0, 8, 3, 0, 3, 1, 1, 1, 4, 0, 0, 2, 2, 1]
     numbers += [4, 1, 2, 0, 0, 0, 1, 3, 5, 0, 0, 1, 6, 8, 1, 0, 0, 6, 1, 5, 0, 0, 0, 0, 4, 1, 4, 2, 4, 3, 4, 1, 5]
     yield Run(["show", "--json", "named.lvs"], 0, json.dumps({"answer": "described", "numbers": numbers, "texts": texts_of.encode().hex()}) + "\n")
-    yield Run(["show", "-"], 2, REFUSED[2] + "\n")
+    yield Run(["show", "-"], 2, refused_words(2, 0) + "\n")
     for number in range(1, 13):
         yield Run(["show", f"r{number}.lvs"], 2, REFUSED[number] + "\n")
     for file in ("r1-driver.lvs", "r1-above.lvs", "r1-far.lvs"):
@@ -677,7 +677,8 @@ def check_texts(folder):
         err = "".join(f"standard input:{line}: {mistake}\n" for line, mistake in mistakes)
         asked.append((" | ".join(lines)[:100], "\n".join([*LEAST, *lines]) + "\n", [], 3, "", err, None))
     for text, number, at, places in texts.refused():
-        out = refused_words(number, at) + "\n" + "".join(f"  standard input:{line}: {what}\n" for line, what in places)
+        note = "  (a byte of the model that would have been written)\n" if number == refusals.MALFORMED else ""
+        out = refused_words(number, at) + "\n" + note + "".join(f"  standard input:{line}: {what}\n" for line, what in places)
         asked.append((f"refusal {number}", text, [], 2, out, "", None))
     end = "found the end of the text"
     no_start, no_patterns = f"expected a line `start INDEX`, {end}\n", f"expected a line `patterns COUNT`, {end}\n"
@@ -897,7 +898,7 @@ def check_runs(folder):
 def check_table():
     check("numbers with a meaning", list(refusals.REFUSALS), list(REFUSED))
     for number, words in REFUSED.items():
-        at = re.match(r"refused \d+ at (?:node|entry) (\d+)", words)
+        at = re.match(r"refused \d+ at (?:byte|node|entry) (\d+)", words)
         check(f"refusal {number}", answers.Refused(number, int(at[1]) if at else 0).words(), words)
     unknown = "refused 99: tools/lvs_command/refusals.py does not say what this number means"
     check("a number without a meaning", answers.Refused(99, 1).words(), unknown)

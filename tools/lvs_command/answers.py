@@ -26,17 +26,17 @@ class Answer:
         return {"answer": self.answer, **self._asdict()}
 
 
-class Refused(Answer, namedtuple("Numbers", "number node")):
+class Refused(Answer, namedtuple("Numbers", "number at")):
     answer, status = "refused", REFUSED
 
     def words(self, labels=None):
         row = refusal(self.number)
-        return f"refused {self.number}{f' at {row.at} {self.node}' if row.at else ''}: {row.meaning}"
+        return f"refused {self.number}{f' at {row.at} {self.at}' if row.at else ''}: {row.meaning}"
 
     def object(self, labels=None):
         row = refusal(self.number)
-        at = "index" if row.at == "entry" else "node"
-        return {"answer": self.answer, "number": self.number, at: self.node, "meaning": row.meaning}
+        at = {"byte": "place", "entry": "index"}.get(row.at, "node")
+        return {"answer": self.answer, "number": self.number, at: self.at, "meaning": row.meaning}
 
 
 class Accepted(Answer, namedtuple("Numbers", "nodes")):

@@ -10,6 +10,7 @@ from .answers import Answer, Refused, counted
 from .description import Lists
 from .errors import YES, Failure
 from .parser import add_bare_command, file_name, file_text, printable, show, show_mistakes
+from .refusals import MALFORMED
 from .text import FORMAT, Place, Reader
 
 DETAILS = f"""\
@@ -23,8 +24,9 @@ is written.
 
 A mistake in the text is answered with its line and what was expected there, on standard
 error (with --json, as an object). A text without mistakes may describe a model that would be
-refused: the answer is that refusal, with the lines to look at. The model's bytes and the
-refusal are the proved call's; reading the text is not proved.
+refused: the answer is that refusal, with the lines to look at. A byte that it names is one of
+the model that would have been written. The model's bytes and the refusal are the proved
+call's; reading the text is not proved.
 
 {FORMAT}"""
 
@@ -65,6 +67,8 @@ def check_paths(args):
 
 def show_refusal(args, answer, places):
     lines = [f"  {file_name(args.text)}:{line}: {printable(text)}" for line, text in places]
+    if answer.number == MALFORMED:
+        lines.insert(0, "  (a byte of the model that would have been written)")
     return show(args, answer, None, {"places": list(map(Place._asdict, places))}, lines)
 
 

@@ -4,12 +4,12 @@ from typing import NamedTuple
 
 class Refusal(NamedTuple):
     meaning: str
-    at: str = ""  # what the second number counts: the node or the entry at fault. Where it is empty, that number is 0 and says nothing
+    at: str = ""  # what the second number is of: the byte, node or entry at fault. Where it is empty, that number is 0 and says nothing
 
 
 REFUSALS = {
     1: Refusal("the model is longer than 32,768 bytes"),
-    2: Refusal("the model is malformed: its bytes are not the elements of an LVS model, or not in their order"),
+    2: Refusal("the model is malformed: its bytes are not the elements of an LVS model, or not in their order", "byte"),
     3: Refusal("the model has another version of the format than 0x00011000"),
     4: Refusal("the model has more than 256 nodes"),
     5: Refusal("a tag in the model is 0 or above 128"),
@@ -33,6 +33,7 @@ REFUSALS = {
     33: Refusal("the list has more than 64 entries"),
 }
 
+MALFORMED = 2
 LISTS = 30
 BAD_ENTRY, MANY_ENTRIES = 32, 33
 LAST_UNREADABLE = 3  # a model refused with this number or a lower one can't be read as nodes and edges

@@ -112,7 +112,7 @@ def entry_at(entries, index):
 
 def show_refusal(args, answer, model, packet, entries):
     if answer.number == BAD_ENTRY:
-        entry = entry_at(entries, answer.node)
+        entry = entry_at(entries, answer.at)
         why = refusal_as_key(model, packet, entry)
         return show_with_place(args, answer, entry, why.words(), {"reason": why.object()})
     if answer.number == MANY_ENTRIES:

@@ -55,7 +55,7 @@ class Tree:
         self.is_accepted = not isinstance(verdict, Refused)
         self.marked, self.mark = None, ""
         if not self.is_accepted and refusal(verdict.number).at == "node":
-            self.marked, self.mark = verdict.node, f"  <- refused {verdict.number}"
+            self.marked, self.mark = verdict.at, f"  <- refused {verdict.number}"
 
     def lines(self):
         model = self.model
