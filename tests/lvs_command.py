@@ -3,8 +3,9 @@
 
 usage: lvs_command.py
 
-Every subcommand, every exit status, every refusal and every error text; the examples in README and in the help texts; texts of models,
-shown and built again; and builds, in a copy of tools/ with another rt. Models are made with tests/cases/build.py.
+Every subcommand, every exit status, every refusal and every error text; the examples in README and in the help texts; what is said of
+malformed models; texts of models, shown and built again; and builds, in a copy of tools/ with another rt. Models are made with
+tests/cases/build.py.
 """
 import concurrent.futures
 import functools
@@ -12,6 +13,7 @@ import json
 import os
 import pathlib
 import pty
+import random
 import re
 import shutil
 import signal
@@ -23,12 +25,14 @@ from typing import NamedTuple
 ROOT = pathlib.Path(__file__).resolve().parent.parent
 sys.path[:0] = [str(ROOT / "tests/cases"), str(ROOT / "tools")]
 sys.dont_write_bytecode = True
+import explanations  # noqa: E402
 import name as names  # noqa: E402
 import texts  # noqa: E402
 import uris  # noqa: E402
 from bench import A, B  # noqa: E402
 from build import *  # noqa: E402, F403
-from lvs_command import answers, description, driver, refusals, text as text_form  # noqa: E402
+from gaps import FULL  # noqa: E402
+from lvs_command import answers, description, driver, malformed, refusals, text as text_form  # noqa: E402
 from random_models import canonical, random_models  # noqa: E402
 from run_cases import TABLES, table  # noqa: E402
 from temporary import TUTORIAL_SHARED, with_count  # noqa: E402
@@ -79,7 +83,19 @@ def many_numbers(options):
 FITTING = (min(driver.NUMBERS, 22516) - (4 + 6 * 256 + 1 + 3 + 1)) // 4
 
 
+CRITICAL = B[:13] + b"\x0d" + B[14:17] + b"\x81\x00" + B[17:]  # in its first Node, behind the NodeId
+
+
+def large(term):
+    """A model of 9 KB with this term in an option of Node 170."""
+    nodes = [node(i, rule_name(f"#rule_{i}"), pattern_edge(i, 1, must_be("a value", "another")), signer(i)) for i in range(180)]
+    nodes[170] = node(170, parent(0), pattern_edge(170, 1, constraint(option(tag(1)), option(call("$eq", term)))))
+    return model(*nodes)
+
+
 FILES = {
+    "critical.lvs": CRITICAL,
+    "large.lvs": large(element(TAG, bytes(3))),
     "fitting.lvs": many_numbers(FITTING),
     "numbers.lvs": many_numbers(FITTING + 1),
     "example.lvs": EXAMPLE,
@@ -155,15 +171,44 @@ def judge_runs():
     yield Run(["judge", "a.lvs"], 0, "accepted: 1 node\n")
     yield Run(["judge", "longest.lvs"], 0, "accepted: 1 node\n")
     yield Run(["judge", "-"], 0, "accepted: 2 nodes\n", given=B)
-    yield Run(["judge", "-"], 2, refused_words(2, 0) + "\n")
     yield Run(["judge", "--json", "example.lvs"], 0, '{"answer": "accepted", "nodes": 29}\n')
     for number in range(1, 13):
-        yield Run(["judge", f"r{number}.lvs"], 2, REFUSED[number] + "\n")
+        if number != refusals.MALFORMED:
+            yield Run(["judge", f"r{number}.lvs"], 2, REFUSED[number] + "\n")
     for file in ("r1-driver.lvs", "r1-above.lvs", "r1-far.lvs", "/dev/zero"):
         yield Run(["judge", file], 2, REFUSED[1] + "\n")
     for number, at in (3, 0), (9, 1):
         meaning = REFUSED[number].partition(": ")[2]
         yield Run(["judge", "--json", f"r{number}.lvs"], 2, f'{{"answer": "refused", "number": {number}, "node": {at}, "meaning": "{meaning}"}}\n')
+
+
+def malformed_runs():
+    def refused(place, *lines):
+        return "".join(line + "\n" for line in (refused_words(2, place), *lines))
+
+    def refused_object(place, found, around):
+        of = {"answer": "refused", "number": 2, "place": place, "meaning": REFUSED[2].partition(": ")[2]}
+        return json.dumps({**of, "found": found, "in": around}) + "\n"
+
+    no_version = "the model ends, and its Version is missing"
+    yield Run(["judge", "-"], 2, refused(0, f"  {no_version}", "  in the model itself", "  byte 0 (0x0):  []"))
+    yield Run(["judge", "--json", "-"], 2, refused_object(0, no_version, []))
+    cut = "  byte 605 (0x25D):  .. 53 06 25 01 1C 23 01 04 [63 0C 25 01 1C 57 01 1B 55 01 0C 55 ..]"
+    yield Run(["judge", "r2.lvs"], 2, refused(605, "  Node of 12 bytes, and 11 are left in the model", "  in the model itself", cut))
+    found, line = "element of the unknown critical type 0x81", "  byte 17 (0x11):  .. 69 01 01 63 0D 25 01 00 [81 00] 53 06 25 01 01 23 01 01 .."
+    yield Run(["judge", "critical.lvs"], 2, refused(17, f"  {found}", "  in Node 0 at byte 12", line))
+    yield Run(["judge", "--json", "critical.lvs"], 2, refused_object(17, found, [{"container": "Node", "node": 0, "start": 12}]))
+    inner = ("PatternEdge", 9260), ("Constraint", 9268), ("ConstraintOption", 9275), ("UserFnCall", 9277), ("UserFnArg", 9284)
+    found, words = "Tag of 3 bytes, and an integer takes 1, 2, 4 or 8", "".join(f" > {of} at byte {start}" for of, start in inner)
+    line = "  byte 9286 (0x2446):  .. 0C 27 03 24 65 71 33 05 [23 03 00 00 00] 63 35 25 01 AB 29 09 23 .."
+    yield Run(["judge", "large.lvs"], 2, refused(9286, f"  {found}", f"  in Node 170 at byte 9252{words}", line))
+    around = [{"container": "Node", "node": 170, "start": 9252}, *({"container": of, "start": start} for of, start in inner)]
+    yield Run(["judge", "--json", "large.lvs"], 2, refused_object(9286, found, around))
+    # of the other commands the refusal alone
+    for words in ["match", "r2.lvs", "/"], ["sign", "r2.lvs", "/", "/"], ["sign", "r2.lvs", "-"]:
+        yield Run(words, 2, REFUSED[2] + "\n")
+    of = {"answer": "refused", "number": 2, "place": 605, "meaning": REFUSED[2].partition(": ")[2]}
+    yield Run(["match", "--json", "r2.lvs", "/"], 2, json.dumps(of) + "\n")
 
 
 def bad_names():
@@ -885,7 +930,7 @@ def run(words, folder, given=b"", command=COMMAND, **how):
 
 def check_runs(folder):
     lists = suggest_runs, refused_list_runs, long_list_runs, list_mistake_runs
-    parts = judge_runs, match_runs, sign_runs, batch_runs, *lists, tree_runs, show_runs, error_runs
+    parts = judge_runs, malformed_runs, match_runs, sign_runs, batch_runs, *lists, tree_runs, show_runs, error_runs
     runs = [one for part in parts for one in part()]
     with concurrent.futures.ThreadPoolExecutor(os.cpu_count()) as pool:
         found = pool.map(lambda one: run(one.words, folder, one.given), runs)
@@ -902,6 +947,60 @@ def check_table():
         check(f"refusal {number}", answers.Refused(number, int(at[1]) if at else 0).words(), words)
     unknown = "refused 99: tools/lvs_command/refusals.py does not say what this number means"
     check("a number without a meaning", answers.Refused(99, 1).words(), unknown)
+
+
+LINE = re.compile(r"  byte (\d+) \(0x([0-9A-F]+)\):  (\.\. )?((?:[0-9A-F]{2} )*)\[([0-9A-F ]*)( \.\.)?\]((?: [0-9A-F]{2})*)( \.\.)?")
+
+
+def read_line(line):
+    """The place twice, and the bytes before it, in [ ] and behind, each with whether .. stands for more."""
+    if not (found := LINE.fullmatch(line)):
+        return line
+    place, again, more_before, before, marked, cut, behind, more_behind = found.groups()
+    parts = (before, more_before), (marked, cut), (behind, more_behind)
+    return int(place), int(again, 16), *((bytes.fromhex(part), bool(more)) for part, more in parts)
+
+
+def line_of(data, place, end):
+    """What such a line has to have: 8 bytes before, 12 in [ ], 8 behind, where there are so many."""
+    before, marked, behind = data[max(place - 8, 0) : place], data[place : min(place + 12, end)], data[end : end + 8]
+    return place, place, (before, place > 8), (marked, end > place + 12), (behind, end + 8 < len(data))
+
+
+def check_explanations():
+    """What is said of malformed models, at the proved call's places, without a process for each."""
+    cases = list(explanations.cases())
+    for one, answer in zip(cases, driver.ask([driver.verdict_case(one.model) for one in cases])):
+        check(f"the place of {one.what}", answer, answers.Refused(refusals.MALFORMED, one.place))
+        *words, line = malformed.explain(one.model, one.place).lines(one.model)
+        expected = [f"  {one.found}", f"  in {one.around}"], line_of(one.model, one.place, one.place + one.size)
+        check(one.what, (words, read_line(line)), expected)
+    # the example, cut at each byte: of 29 Nodes it is a whole model where one ends, or none has begun
+    cut = malformed_among(EXAMPLE[:size] for size in range(len(EXAMPLE)))
+    check("how many cuts are malformed", len(cut), len(EXAMPLE) - 29)
+    damaged = explanations.damaged_models([EXAMPLE, NAMED, FULL, TEMPORARY, large(tag(1)), *random_models(60)], 3000)
+    refused = malformed_among(damaged)
+    check("how many damaged models are malformed", len(refused) > 2000, True)
+    for of, place in cut + refused:
+        check_line(of, place, is_explained=True)
+    chance = random.Random(0)
+    for of in damaged[::4]:  # another place than the call's: only the bytes are shown
+        check_line(of, chance.randrange(len(of) + 1))
+
+
+def malformed_among(models):
+    """(model, place) of each that is refused with 2."""
+    models = list(models)
+    verdicts = driver.ask(list(map(driver.verdict_case, models)))
+    return [(of, answer.at) for of, answer in zip(models, verdicts) if isinstance(answer, answers.Refused) and answer.number == refusals.MALFORMED]
+
+
+def check_line(of, place, is_explained=False):
+    why = malformed.explain(of, place)
+    *words, line = why.lines(of)
+    check(f"the line of {of.hex()} at {place}", read_line(line), line_of(of, place, why.end))
+    if is_explained:
+        check(f"an explanation of {of.hex()} at {place}", (len(words), malformed.UNEXPLAINED in words[0]), (2, False))
 
 
 def check_uris():
@@ -1099,6 +1198,13 @@ def check_builds(folder):
         programmed(program, f"cat >/dev/null; echo {line}")
         text = f"lvs: lvs_cases takes only 65,536 bytes of this input, and answers {line!r}\n"
         check(f"{line} of a cut model", judged("long.lvs"), (3, "", text))
+    programmed(program, "cat >/dev/null; echo refused 2 37")
+    check("a byte behind the model", judged(), (3, "", "lvs: lvs_cases answers with byte 37, and the model has 36\n"))
+    programmed(program, "cat >/dev/null; echo refused 2 36")
+    lines = f"  {malformed.UNEXPLAINED}\n  byte 36 (0x24):  .. 01 01 57 01 00 55 01 01 []\n"
+    check("a refusal of a good model", judged(), (2, f"{refused_words(2, 36)}\n{lines}", ""))
+    of = {"answer": "refused", "number": 2, "place": 36, "meaning": REFUSED[2].partition(": ")[2], "found": malformed.UNEXPLAINED, "in": None}
+    check("the same, --json", answered(["judge", "--json", "b.lvs"]), (2, json.dumps(of) + "\n", ""))
     for line, text in (
         ("certificate", "lvs_cases printed 'certificate', which is no answer"),
         ("certificate 1 2", "lvs_cases printed 'certificate 1 2', which is no answer"),
@@ -1137,6 +1243,7 @@ def main_checks():
     check_table()
     check_uris()
     check_elements()
+    check_explanations()
     check_round_trips()
     check_fault()
     check_examples()

@@ -20,7 +20,18 @@ CONTAINERS = {
     NODE: "Node",
     SYMBOL: "TagSymbol",
 }
-KNOWN = {VALUE, TAG, NODE_ID, FN_ID, IDENTIFIER, SIGNER, PARENT, VERSION, PATTERN_COUNT, *CONTAINERS}
+KNOWN = {
+    **CONTAINERS,
+    VALUE: "Value",
+    TAG: "Tag",
+    NODE_ID: "NodeId",
+    FN_ID: "FnId",
+    IDENTIFIER: "Identifier",
+    SIGNER: "SignConstraint",
+    PARENT: "Parent",
+    VERSION: "Version",
+    PATTERN_COUNT: "NamedPatternCnt",
+}
 
 
 class Skipped(NamedTuple):
