@@ -1,4 +1,4 @@
-// Where the inside of a container is malformed first (docs/format.md, 5.2). Places are counted from its start.
+// Where the inside of a container is malformed first (docs/format.md, 5.3). Places are counted from its start.
 use super::leaves::leaf_fault;
 use super::order::Next;
 use super::order::may_end;

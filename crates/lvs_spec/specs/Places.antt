@@ -1,4 +1,4 @@
--- Where bytes are malformed (docs/format.md, 5.2): the place of the first fault in the order of the file, an element's header before its inside and
+-- Where bytes are malformed (docs/format.md, 5.3): the place of the first fault in the order of the file, an element's header before its inside and
 -- that before the next element. It is where the innermost element at fault starts, or the end of the container in which an element is missing.
 use Prim.Native.Nat.{ℕ, zero, suc, _+_}
 use mathlib.Core.Bool.{Bool, true, false, cond}
