@@ -25,7 +25,7 @@ use Rattle.lvs_spec.proofs.Grammar.{optional-next, critical-next, known
 abbrev pub unplaced : Placed → Cuts
 unplaced (ends at) = done
 unplaced (breaks at) = broken
-unplaced (item start at e r) = next e (unplaced r)
+unplaced (item at start e r) = next e (unplaced r)
 
 from-same : (b : List ℕ) (at : ℕ) (f g : ℕ → List ℕ → Placed) → ((p : ℕ) (r : List ℕ) → length r < length b → f p r ≡ g p r) → (m : First)
     → element b ≡ m → placedFrom at m f ≡ placedFrom at m g
@@ -66,31 +66,31 @@ unplaced-placed =
 -- ---- one element of a container
 
 module _ (inner : Kind → List ℕ → Option ℕ) (k : Kind) where
-  pub fault-optional : (items : List Item) (start at : ℕ) (e : Element) (r : Placed) → meaning (e .type) ≡ optional
-      → faultFrom inner k items (item start at e r) ≡ faultFrom inner k items r
+  pub fault-optional : (items : List Item) (at start : ℕ) (e : Element) (r : Placed) → meaning (e .type) ≡ optional
+      → faultFrom inner k items (item at start e r) ≡ faultFrom inner k items r
   unfolding faultFrom
-  fault-optional items start at e r q = rw (q, faultFrom)
+  fault-optional items at start e r q = rw (q, faultFrom)
 
-  pub fault-critical : (items : List Item) (start at : ℕ) (e : Element) (r : Placed) → meaning (e .type) ≡ critical
-      → faultFrom inner k items (item start at e r) ≡ some start
+  pub fault-critical : (items : List Item) (at start : ℕ) (e : Element) (r : Placed) → meaning (e .type) ≡ critical
+      → faultFrom inner k items (item at start e r) ≡ some at
   unfolding faultFrom
-  fault-critical items start at e r q = rw (q, faultFrom)
+  fault-critical items at start e r q = rw (q, faultFrom)
 
   -- what a known element comes to, where these items are left after it, or none where it may not stand
-  unfoldable pub faultKnown : Known → (start at : ℕ) → Element → Placed → Option (List Item) → Option ℕ
-  faultKnown w start at e r none = some start
-  faultKnown w start at e r (some left) = orElse (insideFault inner k w start at (e .inside)) (faultFrom inner k left r)
+  unfoldable pub faultKnown : Known → (at start : ℕ) → Element → Placed → Option (List Item) → Option ℕ
+  faultKnown w at start e r none = some at
+  faultKnown w at start e r (some left) = orElse (insideFault inner k w at start (e .inside)) (faultFrom inner k left r)
 
-  pub fault-known : (items : List Item) (start at : ℕ) (e : Element) (r : Placed) (w : Known) → meaning (e .type) ≡ known w
-      → faultFrom inner k items (item start at e r) ≡ faultKnown w start at e r (step items (e .type))
+  pub fault-known : (items : List Item) (at start : ℕ) (e : Element) (r : Placed) (w : Known) → meaning (e .type) ≡ known w
+      → faultFrom inner k items (item at start e r) ≡ faultKnown w at start e r (step items (e .type))
   unfolding faultFrom faultKnown
-  fault-known items start at e r w q = rw (q, faultFrom) (go (step items (e .type)))
+  fault-known items at start e r w q = rw (q, faultFrom) (go (step items (e .type)))
     where
       go : (o : Option (List Item))
           → (elim o as (λ x. Option ℕ) [
-            | none ↦ some start
-            | some left ↦ orElse (insideFault inner k w start at (e .inside)) (faultFrom inner k left r)
-          ]) ≡ faultKnown w start at e r o
+            | none ↦ some at
+            | some left ↦ orElse (insideFault inner k w at start (e .inside)) (faultFrom inner k left r)
+          ]) ≡ faultKnown w at start e r o
       go none = refl
       go (some left) = refl
 
@@ -123,39 +123,39 @@ value-none (first h e rest) = go (isComponent e)
     go true = must-none (eqb (length rest) 0) (h + length (e .inside))
     go false = refl
 
-leaf-none : (k : Kind) (l : Leaf) (start at : ℕ) (b : List ℕ) → isNone (leafFault k l start at b) ≡ leafIn k l b
+leaf-none : (k : Kind) (l : Leaf) (at start : ℕ) (b : List ℕ) → isNone (leafFault k l at start b) ≡ leafIn k l b
 unfolding leafFault leafIn
-leaf-none k version start at b = must-none (leafIn k version b) start
-leaf-none k integer start at b = must-none (leafIn k integer b) start
-leaf-none k value start at b = from-none at (valueFault (element b)) ∙ value-none (element b)
-leaf-none k text start at b = must-none (leafIn k text b) start
-leaf-none k functionId start at b = must-none (leafIn k functionId b) start
+leaf-none k version at start b = must-none (leafIn k version b) at
+leaf-none k integer at start b = must-none (leafIn k integer b) at
+leaf-none k value at start b = from-none start (valueFault (element b)) ∙ value-none (element b)
+leaf-none k text at start b = must-none (leafIn k text b) at
+leaf-none k functionId at start b = must-none (leafIn k functionId b) at
 
 module _ (inner : Kind → List ℕ → Option ℕ) (formed : Kind → List ℕ → Bool) (agrees : (j : Kind) (b : List ℕ) → isNone (inner j b) ≡ formed j b)
     (k : Kind) where
-  pub inside-none : (w : Known) (start at : ℕ) (b : List ℕ) → isNone (insideFault inner k w start at b) ≡ insideOk formed k w b
+  pub inside-none : (w : Known) (at start : ℕ) (b : List ℕ) → isNone (insideFault inner k w at start b) ≡ insideOk formed k w b
   unfolding insideFault insideOk
-  inside-none (leaf l) start at b = leaf-none k l start at b
-  inside-none (container j) start at b = from-none at (inner j b) ∙ agrees j b
+  inside-none (leaf l) at start b = leaf-none k l at start b
+  inside-none (container j) at start b = from-none start (inner j b) ∙ agrees j b
 
   from-formed : (r : Placed) (items : List Item) → isNone (faultFrom inner k items r) ≡ inOrder formed k items (unplaced r)
   unfolding faultFrom inOrder faultKnown goesOn
   from-formed (ends at) items = must-none (final items) at
   from-formed (breaks at) items = refl
-  from-formed (item start at e r) items = go (meaning (e .type)) refl (from-formed r)
+  from-formed (item at start e r) items = go (meaning (e .type)) refl (from-formed r)
     where
       taken : (w : Known) (o : Option (List Item)) → ((its : List Item) → isNone (faultFrom inner k its r) ≡ inOrder formed k its (unplaced r))
-          → isNone (faultKnown inner k w start at e r o) ≡ goesOn formed k w e (unplaced r) o
+          → isNone (faultKnown inner k w at start e r o) ≡ goesOn formed k w e (unplaced r) o
       taken w none rec = refl
       taken w (some left) rec =
-          rw (or-none (insideFault inner k w start at (e .inside)) (faultFrom inner k left r), inside-none w start at (e .inside), rec left)
+          rw (or-none (insideFault inner k w at start (e .inside)) (faultFrom inner k left r), inside-none w at start (e .inside), rec left)
 
       go : (m : Meaning) → meaning (e .type) ≡ m → ((its : List Item) → isNone (faultFrom inner k its r) ≡ inOrder formed k its (unplaced r))
-          → isNone (faultFrom inner k items (item start at e r)) ≡ inOrder formed k items (next e (unplaced r))
-      go optional q rec = rw (fault-optional inner k items start at e r q, optional-next formed k items e (unplaced r) q) (rec items)
-      go critical q rec = rw (fault-critical inner k items start at e r q, critical-next formed k items e (unplaced r) q)
+          → isNone (faultFrom inner k items (item at start e r)) ≡ inOrder formed k items (next e (unplaced r))
+      go optional q rec = rw (fault-optional inner k items at start e r q, optional-next formed k items e (unplaced r) q) (rec items)
+      go critical q rec = rw (fault-critical inner k items at start e r q, critical-next formed k items e (unplaced r) q)
       go (known w) q rec =
-          rw (fault-known inner k items start at e r w q, known-next formed k items e (unplaced r) w q) (taken w (step items (e .type)) rec)
+          rw (fault-known inner k items at start e r w q, known-next formed k items e (unplaced r) w q) (taken w (step items (e .type)) rec)
 
 pub by-formed : (n : ℕ) (k : Kind) (b : List ℕ) → isNone (faultBy n k b) ≡ wellFormedBy n k b
 unfolding faultBy wellFormedBy
@@ -187,68 +187,63 @@ malformed-some b h = go (faultPlace b) refl
 pub some-malformed : (b : List ℕ) (p : ℕ) → faultPlace b ≡ some p → wellFormed b ≡ false
 some-malformed b p h = sym (place-formed b) ∙ ap isNone h
 
--- ---- the place lies within the bytes
+-- ---- the place is at most the length
 
-abbrev LiesIn : ℕ → ℕ → Option ℕ → Type 0
-LiesIn low high none = Unit {0}
-LiesIn low high (some p) = (low ≤ p) × (p ≤ high)
+abbrev AtMost : ℕ → Option ℕ → Type 0
+AtMost high none = Unit {0}
+AtMost high (some p) = p ≤ high
 
-lies-wider : (low high low′ high′ : ℕ) (o : Option ℕ) → low′ ≤ low → high ≤ high′ → LiesIn low high o → LiesIn low′ high′ o
-lies-wider low high low′ high′ none l h i = tt
-lies-wider low high low′ high′ (some p) l h i = let a = i .0 in let b = i .1 in (omega arith, omega arith)
+at-most-more : (low high : ℕ) (o : Option ℕ) → low ≤ high → AtMost low o → AtMost high o
+at-most-more low high none h i = tt
+at-most-more low high (some p) h i = omega arith
 
-from-lies : (at high : ℕ) (o : Option ℕ) → LiesIn 0 high o → LiesIn at (at + high) (from at o)
-from-lies at high none i = tt
-from-lies at high (some p) i = let a = i .1 in (omega arith, omega arith)
+from-most : (start high : ℕ) (o : Option ℕ) → AtMost high o → AtMost (start + high) (from start o)
+from-most start high none i = tt
+from-most start high (some p) i = omega arith
 
-must-lies : (t : Bool) (low high p : ℕ) → low ≤ p → p ≤ high → LiesIn low high (must t p)
-must-lies true low high p l h = tt
-must-lies false low high p l h = (l, h)
+must-most : (t : Bool) (high p : ℕ) → p ≤ high → AtMost high (must t p)
+must-most true high p h = tt
+must-most false high p h = h
 
-value-lies : (b : List ℕ) → LiesIn 0 (length b) (valueFault (element b))
+or-most : (high : ℕ) (a b : Option ℕ) → AtMost high a → AtMost high b → AtMost high (orElse a b)
+or-most high none b p q = q
+or-most high (some x) b p q = p
+
+value-most : (b : List ℕ) → AtMost (length b) (valueFault (element b))
 unfolding valueFault
-value-lies b = go (element b) refl
+value-most b = go (element b) refl
   where
-    go : (f : First) → element b ≡ f → LiesIn 0 (length b) (valueFault f)
-    go end p = (omega arith, omega arith)
-    go malformed p = (omega arith, omega arith)
+    go : (f : First) → element b ≡ f → AtMost (length b) (valueFault f)
+    go end p = omega arith
+    go malformed p = omega arith
     go (first h e rest) p = test (isComponent e)
       where
-        test : (t : Bool) → LiesIn 0 (length b) (cond t (must (eqb (length rest) 0) (h + length (e .inside))) (some 0))
+        test : (t : Bool) → AtMost (length b) (cond t (must (eqb (length rest) 0) (h + length (e .inside))) (some 0))
         test true =
             let w = element-whole b h e rest p in
-            let i = w .inside-length in
-            let z = w .within in
-            must-lies (eqb (length rest) 0) 0 (length b) (h + length (e .inside)) (omega arith) (omega arith)
-        test false = (omega arith, omega arith)
+            must-most (eqb (length rest) 0) (length b) (h + length (e .inside)) (omega (arith, w .inside-length, w .within))
+        test false = omega arith
 
-leaf-lies : (k : Kind) (l : Leaf) (start at : ℕ) (b : List ℕ) → start ≤ at → LiesIn start (at + length b) (leafFault k l start at b)
+leaf-most : (k : Kind) (l : Leaf) (at start : ℕ) (b : List ℕ) → at ≤ start → AtMost (start + length b) (leafFault k l at start b)
 unfolding leafFault
-leaf-lies k version start at b h = must-lies (leafIn k version b) start (at + length b) start (omega arith) (omega arith)
-leaf-lies k integer start at b h = must-lies (leafIn k integer b) start (at + length b) start (omega arith) (omega arith)
-leaf-lies k value start at b h =
-    lies-wider at (at + length b) start (at + length b) (from at (valueFault (element b))) h (omega arith)
-    (from-lies at (length b) (valueFault (element b)) (value-lies b))
-leaf-lies k text start at b h = must-lies (leafIn k text b) start (at + length b) start (omega arith) (omega arith)
-leaf-lies k functionId start at b h = must-lies (leafIn k functionId b) start (at + length b) start (omega arith) (omega arith)
+leaf-most k version at start b h = must-most (leafIn k version b) (start + length b) at (omega arith)
+leaf-most k integer at start b h = must-most (leafIn k integer b) (start + length b) at (omega arith)
+leaf-most k value at start b h = from-most start (length b) (valueFault (element b)) (value-most b)
+leaf-most k text at start b h = must-most (leafIn k text b) (start + length b) at (omega arith)
+leaf-most k functionId at start b h = must-most (leafIn k functionId b) (start + length b) at (omega arith)
 
-or-lies : (low high : ℕ) (a b : Option ℕ) → LiesIn low high a → LiesIn low high b → LiesIn low high (orElse a b)
-or-lies low high none b p q = q
-or-lies low high (some x) b p q = p
-
-module _ (inner : Kind → List ℕ → Option ℕ) (lies : (j : Kind) (b : List ℕ) → LiesIn 0 (length b) (inner j b)) (k : Kind) where
-  inside-lies : (w : Known) (start at : ℕ) (b : List ℕ) → start ≤ at → LiesIn start (at + length b) (insideFault inner k w start at b)
+module _ (inner : Kind → List ℕ → Option ℕ) (most : (j : Kind) (b : List ℕ) → AtMost (length b) (inner j b)) (k : Kind) where
+  inside-most : (w : Known) (at start : ℕ) (b : List ℕ) → at ≤ start → AtMost (start + length b) (insideFault inner k w at start b)
   unfolding insideFault
-  inside-lies (leaf l) start at b h = leaf-lies k l start at b h
-  inside-lies (container j) start at b h =
-      lies-wider at (at + length b) start (at + length b) (from at (inner j b)) h (omega arith) (from-lies at (length b) (inner j b) (lies j b))
+  inside-most (leaf l) at start b h = leaf-most k l at start b h
+  inside-most (container j) at start b h = from-most start (length b) (inner j b) (most j b)
 
-  abbrev RestLies : List ℕ → Type 0
-  RestLies b = (items : List Item) (at : ℕ) → LiesIn at (at + length b) (faultFrom inner k items (placed at b))
+  abbrev RestMost : List ℕ → Type 0
+  RestMost b = (items : List Item) (at : ℕ) → AtMost (at + length b) (faultFrom inner k items (placed at b))
 
-  next-lies : (b : List ℕ) (h : ℕ) (e : Element) (r : List ℕ) → element b ≡ first h e r → RestLies r → RestLies b
+  next-most : (b : List ℕ) (h : ℕ) (e : Element) (r : List ℕ) → element b ≡ first h e r → RestMost r → RestMost b
   unfolding faultKnown
-  next-lies b h e r p rec items at = rw (placed-next at b h e r p) (go (meaning (e .type)) refl)
+  next-most b h e r p rec items at = rw (placed-next at b h e r p) (go (meaning (e .type)) refl)
     where
       after : ℕ
       after = at + h + length (e .inside)
@@ -256,46 +251,40 @@ module _ (inner : Kind → List ℕ → Option ℕ) (lies : (j : Kind) (b : List
       size : after + length r ≡ at + length b
       size =
           let w = element-whole b h e r p in
-          let i = w .inside-length in
-          let z = w .within in
           let d : length r ≡ length b - (h + w .size) = ap length (w .rest-is) ∙ length-drop (h + w .size) b in
-          omega arith
+          omega (arith, w .inside-length, w .within)
 
-      onward : (its : List Item) → LiesIn at (at + length b) (faultFrom inner k its (placed after r))
-      onward its =
-          let s = size in
-          lies-wider after (after + length r) at (at + length b) (faultFrom inner k its (placed after r)) (omega arith) (omega arith) (rec its after)
+      onward : (its : List Item) → AtMost (at + length b) (faultFrom inner k its (placed after r))
+      onward its = at-most-more (after + length r) (at + length b) (faultFrom inner k its (placed after r)) (omega (arith, size)) (rec its after)
 
-      taken : (w : Known) (o : Option (List Item)) → LiesIn at (at + length b) (faultKnown inner k w at (at + h) e (placed after r) o)
-      taken w none = (omega arith, omega arith)
+      taken : (w : Known) (o : Option (List Item)) → AtMost (at + length b) (faultKnown inner k w at (at + h) e (placed after r) o)
+      taken w none = omega arith
       taken w (some left) =
-          let s = size in
           let i = insideFault inner k w at (at + h) (e .inside) in
-          or-lies at (at + length b) i (faultFrom inner k left (placed after r))
-          (lies-wider at after at (at + length b) i (omega arith) (omega arith) (inside-lies w at (at + h) (e .inside) (omega arith)))
+          or-most (at + length b) i (faultFrom inner k left (placed after r))
+          (at-most-more after (at + length b) i (omega (arith, size)) (inside-most w at (at + h) (e .inside) (omega arith)))
           (onward left)
 
-      go : (m : Meaning) → meaning (e .type) ≡ m → LiesIn at (at + length b) (faultFrom inner k items (item at (at + h) e (placed after r)))
+      go : (m : Meaning) → meaning (e .type) ≡ m → AtMost (at + length b) (faultFrom inner k items (item at (at + h) e (placed after r)))
       go optional q = rw (fault-optional inner k items at (at + h) e (placed after r) q) (onward items)
-      go critical q = rw (fault-critical inner k items at (at + h) e (placed after r) q) (omega arith, omega arith)
+      go critical q = rw (fault-critical inner k items at (at + h) e (placed after r) q) (omega arith)
       go (known w) q = rw (fault-known inner k items at (at + h) e (placed after r) w q) (taken w (step items (e .type)))
 
-  rest-lies : (b : List ℕ) → RestLies b
+  rest-most : (b : List ℕ) → RestMost b
   unfolding faultFrom
-  rest-lies =
-      by-elements RestLies
-      (λ b p items at. rw (placed-end at b p) (must-lies (final items) at (at + length b) at (omega arith) (omega arith)))
-      (λ b p items at. rw (placed-malformed at b p) (omega arith, omega arith))
-      next-lies
+  rest-most =
+      by-elements RestMost
+      (λ b p items at. rw (placed-end at b p) (must-most (final items) (at + length b) at (omega arith)))
+      (λ b p items at. rw (placed-malformed at b p) (omega arith))
+      next-most
 
-by-lies : (n : ℕ) (k : Kind) (b : List ℕ) → LiesIn 0 (length b) (faultBy n k b)
+by-most : (n : ℕ) (k : Kind) (b : List ℕ) → AtMost (length b) (faultBy n k b)
 unfolding faultBy
-by-lies zero k b = (omega arith, omega arith)
-by-lies (suc n) k b = let e : 0 + length b ≡ length b = omega arith in rw e at (rest-lies (faultBy n) (by-lies n) k b (order k) 0)
+by-most zero k b = omega arith
+by-most (suc n) k b = let e : 0 + length b ≡ length b = omega arith in rw e at (rest-most (faultBy n) (by-most n) k b (order k) 0)
 
--- it is at most the length
 pub by-within : (n : ℕ) (k : Kind) (b : List ℕ) {p : ℕ} → faultBy n k b ≡ some p → p ≤ length b
-by-within n k b {p} h = let z : LiesIn 0 (length b) (some p) = rw h at (by-lies n k b) in z .1
+by-within n k b h = rw h at (by-most n k b)
 
 pub place-within : (b : List ℕ) {p : ℕ} → faultPlace b ≡ some p → p ≤ length b
 unfolding faultPlace

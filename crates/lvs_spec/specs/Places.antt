@@ -18,19 +18,19 @@ abbrev pub must : Bool → ℕ → Option ℕ
 must true place = none
 must false place = some place
 
--- a place that was counted from `at`
+-- a place that was counted from `start`
 abbrev pub from : ℕ → Option ℕ → Option ℕ
-from at none = none
-from at (some p) = some (at + p)
+from start none = none
+from start (some p) = some (start + p)
 
 -- ---- elements and their places
 
--- bytes cut into elements, as by `cuts`, with their places: they end at a place, or break off there, or an element starts there, its inside
--- starts at another, and they go on
+-- bytes cut into elements, as by `cuts`, with their places: they end at a place, or break off there, or an element is there, whose inside has a
+-- start of its own, and they go on
 pub data Placed : Type 0 where
   ends : (at : ℕ) → Placed
   breaks : (at : ℕ) → Placed
-  item : (start at : ℕ) (e : Element) (rest : Placed) → Placed
+  item : (at start : ℕ) (e : Element) (rest : Placed) → Placed
 
 -- `go` cuts what comes after the first element, from its place on
 abbrev pub placedFrom : ℕ → First → (ℕ → List ℕ → Placed) → Placed
@@ -47,37 +47,37 @@ placedBy (suc k) at b = placedFrom at (element b) (λ p rest. placedBy k p rest)
 unfoldable pub placed : ℕ → List ℕ → Placed
 placed at b = placedBy (suc (length b)) at b
 
--- ---- the first fault
+-- ---- the place of the first fault
 
--- in a Value, counted from its inside: one component is missing, is none, or something comes after it
+-- in the inside of a Value, counted from there: its component is missing or none, or something comes after it
 unfoldable pub valueFault : First → Option ℕ
 valueFault end = some 0
 valueFault malformed = some 0
 valueFault (first h e rest) = cond (isComponent e) (must (eqb (length rest) 0) (h + length (e .inside))) (some 0)
 
--- in an element of plain bytes b that starts at `start`, and its inside at `at`, in a container of kind k
-unfoldable pub leafFault : Kind → Leaf → (start at : ℕ) → List ℕ → Option ℕ
-leafFault k version start at b = must (leafIn k version b) start
-leafFault k integer start at b = must (leafIn k integer b) start
-leafFault k value start at b = from at (valueFault (element b))
-leafFault k text start at b = must (leafIn k text b) start
-leafFault k functionId start at b = must (leafIn k functionId b) start
+-- in an element of plain bytes b that is at a place, and its inside has this start, in a container of kind k
+unfoldable pub leafFault : Kind → Leaf → (at start : ℕ) → List ℕ → Option ℕ
+leafFault k version at start b = must (leafIn k version b) at
+leafFault k integer at start b = must (leafIn k integer b) at
+leafFault k value at start b = from start (valueFault (element b))
+leafFault k text at start b = must (leafIn k text b) at
+leafFault k functionId at start b = must (leafIn k functionId b) at
 
 module _ (inner : Kind → List ℕ → Option ℕ) (k : Kind) where
   -- in an element that holds what w says; `inner` counts from the inside of a container
-  unfoldable pub insideFault : Known → (start at : ℕ) → List ℕ → Option ℕ
-  insideFault (leaf l) start at b = leafFault k l start at b
-  insideFault (container j) start at b = from at (inner j b)
+  unfoldable pub insideFault : Known → (at start : ℕ) → List ℕ → Option ℕ
+  insideFault (leaf l) at start b = leafFault k l at start b
+  insideFault (container j) at start b = from start (inner j b)
 
   -- in the rest of a container of kind k, of whose order these items are left
   unfoldable pub faultFrom : List Item → Placed → Option ℕ
   faultFrom items (ends at) = must (final items) at
   faultFrom items (breaks at) = some at
-  faultFrom items (item start at e rest) =
+  faultFrom items (item at start e rest) =
       elim (meaning (e .type)) [
         | optional ↦ faultFrom items rest
-        | critical ↦ some start
-        | known w ↦ elim (step items (e .type)) [ none ↦ some start | some left ↦ orElse (insideFault w start at (e .inside)) (faultFrom left rest) ]
+        | critical ↦ some at
+        | known w ↦ elim (step items (e .type)) [ none ↦ some at | some left ↦ orElse (insideFault w at start (e .inside)) (faultFrom left rest) ]
       ]
 
 -- in the inside of a container of kind k, counted from there; n bounds the depth
