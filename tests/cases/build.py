@@ -11,6 +11,12 @@ VALUE, TAG, NODE_ID, FN_ID, IDENTIFIER = 0x21, 0x23, 0x25, 0x27, 0x29
 CALL, ARGUMENT, OPTION, CONSTRAINT = 0x31, 0x33, 0x41, 0x43
 VALUE_EDGE, PATTERN_EDGE, SIGNER, PARENT = 0x51, 0x53, 0x55, 0x57
 VERSION, NODE, SYMBOL, PATTERN_COUNT = 0x61, 0x63, 0x67, 0x69
+# and what those of a model are called
+NAMES = {
+    **{VALUE: "Value", TAG: "Tag", NODE_ID: "NodeId", FN_ID: "FnId", IDENTIFIER: "Identifier", CALL: "UserFnCall", ARGUMENT: "UserFnArg"},
+    **{OPTION: "ConstraintOption", CONSTRAINT: "Constraint", VALUE_EDGE: "ValueEdge", PATTERN_EDGE: "PatternEdge", SIGNER: "SignConstraint"},
+    **{PARENT: "Parent", VERSION: "Version", NODE: "Node", SYMBOL: "TagSymbol", PATTERN_COUNT: "NamedPatternCnt"},
+}
 
 GOOD_VERSION = 0x00011000
 

@@ -4,11 +4,6 @@ from typing import NamedTuple
 
 from build import *
 
-NAMES = {
-    **{VALUE: "Value", TAG: "Tag", NODE_ID: "NodeId", FN_ID: "FnId", IDENTIFIER: "Identifier", CALL: "UserFnCall", ARGUMENT: "UserFnArg"},
-    **{OPTION: "ConstraintOption", CONSTRAINT: "Constraint", VALUE_EDGE: "ValueEdge", PATTERN_EDGE: "PatternEdge", SIGNER: "SignConstraint"},
-    **{PARENT: "Parent", VERSION: "Version", NODE: "Node", SYMBOL: "TagSymbol", PATTERN_COUNT: "NamedPatternCnt"},
-}
 ROLES = {
     ("model", NODE_ID): "StartId",
     ("ValueEdge", NODE_ID): "Destination",

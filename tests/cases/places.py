@@ -23,25 +23,6 @@ from writing import (
 )
 
 MODEL, END = "model", "end"
-NAMES = {
-    VALUE: "Value",
-    TAG: "Tag",
-    NODE_ID: "NodeId",
-    FN_ID: "FnId",
-    IDENTIFIER: "Identifier",
-    CALL: "UserFnCall",
-    ARGUMENT: "UserFnArg",
-    OPTION: "ConstraintOption",
-    CONSTRAINT: "Constraint",
-    VALUE_EDGE: "ValueEdge",
-    PATTERN_EDGE: "PatternEdge",
-    SIGNER: "SignConstraint",
-    PARENT: "Parent",
-    VERSION: "Version",
-    NODE: "Node",
-    SYMBOL: "TagSymbol",
-    PATTERN_COUNT: "NamedPatternCnt",
-}
 
 # what may stand next in a container, behind its last element that is not optional (None: there is none); END where it may end there
 FOLLOWS = {
