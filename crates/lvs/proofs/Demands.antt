@@ -40,6 +40,7 @@ use Rattle.lvs_spec.proofs.Same.{SameAnswers as SameDefined, accepted-same}
 use Rattle.lvs_spec.proofs.Unnamed.{same-unnamed}
 use Rattle.lvs_spec.proofs.Counts.{same-counts}
 use Rattle.lvs_spec.proofs.Demand3.{bare-alike, critical-refused, version-refused}
+use Rattle.lvs_spec.proofs.Usable.{all-refuse}
 use Rattle.lvs_spec.proofs.Critical.{stands}
 use Rattle.lvs_spec.proofs.Optional.{optional-alike}
 use Rattle.lvs.specs.Answers.{verdictOf, matchAnswerOf, signAnswerOf, suggestAnswerOf}
@@ -324,6 +325,10 @@ refused-calls s =
       signed = λ {packet} {key} {r} c. same-signing r _ (signed-is c ∙ s .signed packet key);
       suggested = λ {packet} {list} {r} c. same-suggesting r _ (suggested-is c ∙ s .suggested packet list);
     }
+
+-- what the verdict call refuses, all calls refuse with the same two numbers; so each says where a model is malformed
+pub refused-by-all : {model : List ℕ} {number at : ℕ} → Judged model (verdicts.Refused number at) → RefusedCalls number at model
+refused-by-all {model} c = refused-calls (all-refuse model (sym (judged-is c)))
 
 -- an optional element x in any gap changes no answer and no word, unless the model becomes too long
 pub optional-ignored : (b b′ : List ℕ) (m : Model) (x : Element) → Bytes b → Bytes b′ → reading b ≡ describes m → meaning (x .type) ≡ optional
