@@ -17,15 +17,18 @@ use Rattle.tlv.specs.Lists.{is}
 use Rattle.lvs_spec.specs.Grammar as grammar
 use Rattle.lvs_spec.specs.Grammar.{Kind, meaning, order, step, final}
 use Rattle.lvs_spec.specs.WellFormed.{firstKnown, isOtherVersion, otherVersion}
-use Rattle.lvs_spec.specs.Places.{must, Placed, item, placed, insideFault, faultFrom, faultBy}
+use Rattle.lvs_spec.specs.Places.{must, from, Placed, item, placed, leafFault, insideFault, faultFrom, faultBy}
 use Rattle.lvs_spec.proofs.Places.{placed-end, placed-malformed, placed-next, fault-optional, fault-critical, faultKnown, fault-known}
 use Rattle.lvs_spec.proofs.Version.{first-optional, first-critical, first-known}
 use Rattle.lvs_grammar.specs.declared.order.Next.{Next}
 use Rattle.lvs_grammar.specs.declared.order.Next.the-variants.{Refused, State}
+use Rattle.lvs_grammar.specs.declared.types.Kind as kinds
+use Rattle.lvs_grammar.specs.declared.types.Leaf.{Leaf}
 use Rattle.lvs_grammar.specs.declared.types.Known as knowns
+use Rattle.lvs_grammar.specs.declared.types.Known.the-variants.{Plain, Container}
 use Rattle.lvs_grammar.specs.declared.types.Meaning.{Meaning}
 use Rattle.lvs_grammar.specs.declared.types.Meaning.the-variants.{Optional, Critical, Known}
-use Rattle.lvs_grammar.specs.Types.{knownOf, meaningOf, isOptional}
+use Rattle.lvs_grammar.specs.Types.{kindOf, leafOf, knownOf, meaningOf, isOptional}
 use Rattle.lvs_grammar.specs.States.{leftBehind}
 
 -- the element between two places of a list
@@ -42,10 +45,13 @@ pub fault-deep : (d : ℕ) (k : Kind) (s : List ℕ) → d ≡ 0 → some 0 ≡ 
 unfolding faultBy
 fault-deep d k s h = rw h
 
-pub fault-start : (d : ℕ) (k : Kind) (s : List ℕ) → (d ≡ 0 → ⊥) → faultBy d k s ≡ faultAfter (d - 1) k 0 s 0
+pub fault-below : (d : ℕ) (k : Kind) (s : List ℕ) → (d ≡ 0 → ⊥) → faultBy (suc (d - 1)) k s ≡ faultBy d k s
+fault-below zero k s h = absurd (h refl)
+fault-below (suc n) k s h = let e : suc n - 1 ≡ n = omega arith in rw e
+
+pub fault-start : (n : ℕ) (k : Kind) (s : List ℕ) → faultBy (suc n) k s ≡ faultAfter n k 0 s 0
 unfolding faultAfter faultBy
-fault-start zero k s h = absurd (h refl)
-fault-start (suc n) k s h = let e : suc n - 1 ≡ n = omega arith in rw e
+fault-start n k s = refl
 
 module _ (n : ℕ) (k : Kind) (q : ℕ) (s : List ℕ) (at : ℕ) {r : Read} (e : r ≡ readAt s at) where
   pub fault-end : {b : Bool} → r ≡ End → b ≡ final (drop q (order k)) → faultAfter n k q s at ≡ must b at
@@ -87,14 +93,37 @@ module _ (n : ℕ) (k : Kind) (q : ℕ) (s : List ℕ) (at : ℕ) {r : Read} (e 
       unfolding faultKnown
       fault-refused j = known ∙ rw j
 
+      -- what it holds has a fault, or has none
       module _ {q′ : ℕ} (j : x ≡ State q′) {o : Option ℕ} (l : o ≡ insideFault (faultBy n) k (knownOf w) at a (take (b - a) (drop a s))) where
-        pub fault-inside : {y : ℕ} → o ≡ some y → faultAfter n k q s at ≡ some y
+        inside-fault : {z : ℕ} → o ≡ some z → faultAfter n k q s at ≡ some z
         unfolding faultKnown
-        fault-inside v = known ∙ rw (j, faultKnown, sym l ∙ v)
+        inside-fault v = known ∙ rw (j, faultKnown, sym l ∙ v)
 
-        pub fault-on : o ≡ none → faultAfter n k q s at ≡ faultAfter n k q′ s (p .at)
+        inside-on : o ≡ none → faultAfter n k q s at ≡ faultAfter n k q′ s (p .at)
         unfolding faultKnown faultAfter
-        fault-on v = known ∙ rw (j, faultKnown, sym l ∙ v)
+        inside-on v = known ∙ rw (j, faultKnown, sym l ∙ v)
+
+      module _ {q′ : ℕ} (j : x ≡ State q′) {y : Leaf} (u : w ≡ Plain y) {o : Option ℕ} (l : o ≡ leafFault k (leafOf y) at a (take (b - a) (drop a s))) where
+        held : o ≡ insideFault (faultBy n) k (knownOf w) at a (take (b - a) (drop a s))
+        unfolding insideFault
+        held = rw u l
+
+        pub plain-fault : {z : ℕ} → o ≡ some z → faultAfter n k q s at ≡ some z
+        plain-fault v = inside-fault j held v
+
+        pub plain-on : o ≡ none → faultAfter n k q s at ≡ faultAfter n k q′ s (p .at)
+        plain-on v = inside-on j held v
+
+      module _ {q′ : ℕ} (j : x ≡ State q′) {y : kinds.Kind} (u : w ≡ Container y) {o : Option ℕ} (l : o ≡ faultBy n (kindOf y) (take (b - a) (drop a s))) where
+        entered : from a o ≡ insideFault (faultBy n) k (knownOf w) at a (take (b - a) (drop a s))
+        unfolding insideFault
+        entered = rw u (ap (from a) l)
+
+        pub container-fault : {z : ℕ} → o ≡ some z → faultAfter n k q s at ≡ some (a + z)
+        container-fault v = inside-fault j entered (ap (from a) v)
+
+        pub container-on : o ≡ none → faultAfter n k q s at ≡ faultAfter n k q′ s (p .at)
+        container-on v = inside-on j entered (ap (from a) v)
 
 -- a part of what is short is short
 pub part-short : (s : List ℕ) (a b most : ℕ) → a ≤ b → b ≤ length s → length s ≤ most → a + length (take (b - a) (drop a s)) ≤ most

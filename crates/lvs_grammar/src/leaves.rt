@@ -20,7 +20,7 @@ ghost use Rattle.lvs_grammar.specs.Faults.{faultOf};
 // Where an element of plain bytes `s`, in a container of this kind, is at fault: where it starts, at `at`; only a Value holds an element, whose
 // faults lie in its inside, which starts at `start`.
 pub(crate) fn leaf_fault(s: &[u8], at: usize, start: usize, kind: Kind, leaf: Leaf) -> Fault
-    requires { ⌜ start + length (now s) ≤ maxModelBytes ⌝ }
+    requires { ⌜ (at ≤ start) × (start + length (now s) ≤ maxModelBytes) ⌝ }
     ensures { λ r. ⌜ faultOf r ≡ places.leafFault (kindOf kind) (leafOf leaf) at start (now (s .entry)) ⌝ }
 {
     match leaf {
@@ -46,12 +46,12 @@ fn value_fault(s: &[u8], start: usize) -> Fault
             next: _,
         } => {
             if lvs_spec::MAX_COMPONENT_TYPE < typ {
-                return Fault::At(start);
+                return Fault::At(start as u32);
             }
             must(end == s.len(), start + end)
         }
-        Read::End => Fault::At(start),
-        Read::Malformed => Fault::At(start),
+        Read::End => Fault::At(start as u32),
+        Read::Malformed => Fault::At(start as u32),
     }
 }
 

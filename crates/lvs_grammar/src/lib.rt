@@ -40,7 +40,7 @@ pub fn check_grammar(model: &[u8]) -> Reading
     }
     match fault_in(model, Kind::Model, DEPTH) {
         Fault::Nowhere => Reading::Readable,
-        Fault::At(place) => Reading::Malformed(place as u32),
+        Fault::At(place) => Reading::Malformed(place),
     }
 }
 

@@ -1,11 +1,9 @@
 -- `lvs_grammar::check_grammar` meets its contract: each test says which case of `readingOf` holds. Assumes nothing.
 use borrow.Author.Needs.{needs}
 use mathlib.Core.Path.{sym, ap, _∙_}
-use native.Mathlib.Omega.{arith}
 use borrow.Author.Tests.{lt-ltb, le-ltb}
 use Rattle.lvs_spec.specs.WellFormed.{tooLong}
 use Rattle.lvs_spec.specs.Places.{faultPlace}
-use Rattle.lvs_spec.proofs.Places.{place-within}
 use Rattle.lvs_grammar.specs.Answers.{readingOf}
 use Rattle.lvs_grammar.specs.Faults.{faultOf}
 use Rattle.lvs_grammar.proofs.check_grammar.Statement.{statement}
@@ -18,13 +16,6 @@ returns c = rw (lt-ltb _ _ (c .if1 .taken))
 returns-2 : tie.Need-returns-2
 unfolding readingOf tooLong
 returns-2 c = rw (le-ltb _ _ (c .before .before .if1 .left), sym (c .before .other-version .ensures) ∙ c .if2 .taken)
-
-cast-t9 : tie.Need-cast-t9
-unfolding faultPlace
-cast-t9 c =
-    let f = c .before .before .before in
-    let i = f .before .before .before in
-    omega (arith, i .if1 .left, place-within _ (sym (f .fault-in .ensures) ∙ ap faultOf (c .before .place .given .1)))
 
 returns-3 : tie.Need-returns-3
 unfolding readingOf tooLong faultPlace
@@ -58,6 +49,5 @@ check-grammar-spec =
     (λ c κs. search needs)
     (λ c. search needs)
     (λ c. search needs)
-    cast-t9
     returns-3
     returns-4)
