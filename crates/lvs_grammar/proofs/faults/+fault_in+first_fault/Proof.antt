@@ -145,8 +145,9 @@ first-loop-again t c =
 
 first-cast-t22 : (t : ℕ) → first-need first-lts.Need-cast-t22 t
 first-cast-t22 t c =
-    let l = c .before .before .before .before .before .before .before in
-    omega (arith, l .loop .inv .1, l .before .before .pre .1)
+    let y = c .before .before .before .before in
+    let e = y .before .before in
+    omega (arith, seen _ _ (e .element .ensures) (y .typ .given .1), e .before .before .before .pre .1)
 
 first-returns-3 : (t : ℕ) → first-need first-lts.Need-returns-3 t
 first-returns-3 t c =

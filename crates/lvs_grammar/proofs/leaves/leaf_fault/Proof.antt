@@ -1,31 +1,25 @@
 -- `lvs_grammar::leaves::leaf_fault` meets its contract: each leaf has its test. Assumes nothing.
-use Prim.Native.Nat.{_≤_}
 use borrow.Author.Needs.{needs}
 use native.Mathlib.Omega.{arith}
-use Rattle.lvs_spec.specs.Limits.{maxModelBytes}
 use Rattle.lvs_spec.specs.Leaves.{leafIn}
 use Rattle.lvs_spec.specs.Places.{leafFault}
 use Rattle.lvs_grammar.proofs.leaves.leaf_fault.Statement.{statement}
 use Rattle.lvs_grammar.proofs.leaves.leaf_fault.Tie as tie
 
--- the element is at a place of a model
-small : (s : tie.Start) → s .args .at ≤ maxModelBytes
-small s = omega (arith, s .pre .0, s .pre .1)
-
 must-requires : tie.Need-must-requires
-must-requires c κs = small (c .before .before .before)
+must-requires c κs = let s = c .before .before .before in omega (arith, s .pre .0, s .pre .1)
 
 must-requires-2 : tie.Need-must-requires-2
-must-requires-2 c κs = small (c .before .before .before .before)
+must-requires-2 c κs = let s = c .before .before .before .before in omega (arith, s .pre .0, s .pre .1)
 
 value-fault-requires : tie.Need-value-fault-requires
 value-fault-requires c κs = c .before .before .before .pre .1
 
 must-requires-3 : tie.Need-must-requires-3
-must-requires-3 c κs = small (c .before .before .before .before)
+must-requires-3 c κs = let s = c .before .before .before .before in omega (arith, s .pre .0, s .pre .1)
 
 must-requires-4 : tie.Need-must-requires-4
-must-requires-4 c κs = small (c .before .before .before .before)
+must-requires-4 c κs = let s = c .before .before .before .before in omega (arith, s .pre .0, s .pre .1)
 
 returns : tie.Need-returns
 unfolding leafFault leafIn
