@@ -34,7 +34,7 @@ pub(crate) fn must(ok: bool, place: usize) -> Fault
     Fault::At(place as u32)
 }
 
-// In the whole inside of a container of this kind, read to at most this depth.
+// The first fault in the whole inside of a container of this kind, read to at most this depth.
 pub(crate) fn fault_in(s: &[u8], kind: Kind, depth: u8) -> Fault
     requires { ⌜ length (now s) ≤ maxModelBytes ⌝ }
     ensures { λ r. ⌜ faultOf r ≡ places.faultBy depth (kindOf kind) (now (s .entry)) ⌝ }
