@@ -150,14 +150,14 @@ module _ {model name buffer after : List ℕ} where
   left c = ap (λ (o : Outcome). o .words) (matched-is c)
 
   -- a refused call leaves the buffer as it was, and so does "no match"
-  pub refused-keeps-buffer : {number node : ℕ} → Matched model name buffer (matchings.Refused number node) after → after ≡ buffer
+  pub refused-keeps-buffer : {number at : ℕ} → Matched model name buffer (matchings.Refused number at) after → after ≡ buffer
   refused-keeps-buffer c = left c ∙ refused-keeps model name buffer _ (sym (answered c))
 
   pub no-match-keeps-buffer : Matched model name buffer matchings.NoMatch after → after ≡ buffer
   no-match-keeps-buffer c = left c ∙ no-match-keeps model name buffer (sym (answered c))
 
   -- a refusal is one of a model, a packet name or a buffer
-  pub match-refusals : {number node : ℕ} → Matched model name buffer (matchings.Refused number node) after → List·Memᴰ number matchRefusals
+  pub match-refusals : {number at : ℕ} → Matched model name buffer (matchings.Refused number at) after → List·Memᴰ number matchRefusals
   match-refusals c = match-number model name buffer _ (sym (answered c))
 
   -- a match is answered exactly when there is one
@@ -196,7 +196,7 @@ buffer-unread {model} {name} {buffer} {other} {r = r} {q = q} l c d =
 
 module _ {model packet key : List ℕ} where
   -- a refusal is one of a model, a packet name or a key name
-  pub sign-refusals : {number node : ℕ} → Signed model packet key (signings.Refused number node) → List·Memᴰ number signRefusals
+  pub sign-refusals : {number at : ℕ} → Signed model packet key (signings.Refused number at) → List·Memᴰ number signRefusals
   sign-refusals c = sign-number model packet key _ (sym (signed-is c))
 
   -- "allowed" exactly when some packet match, and some key match that starts from its bindings, end at a node and at a signer which

@@ -101,7 +101,7 @@ module _ {ns ts before after : List ℕ} where
 
     module _ {m : Model} (is : descriptionOf ns ts ≡ some m) where
       -- a description whose bytes are refused, with the two numbers of the verdict on them,
-      pub write-refused : {number node : ℕ} → verdict (modelBytes m) ≡ refused number node → (r ≡ writings.Refused number node) × (after ≡ before)
+      pub write-refused : {number at : ℕ} → verdict (modelBytes m) ≡ refused number at → (r ≡ writings.Refused number at) × (after ≡ before)
       write-refused v = by-case c (refused-bytes is v)
 
       -- and one whose bytes are accepted, with 31 if the output is too short for them;
@@ -115,11 +115,11 @@ module _ {ns ts before after : List ℕ} where
       write-written v h = by-case c (on-output is v h)
 
   -- a refusal keeps every byte of the output
-  pub write-keeps : {number node : ℕ} → Wrote ns ts before (writings.Refused number node) after → after ≡ before
+  pub write-keeps : {number at : ℕ} → Wrote ns ts before (writings.Refused number at) after → after ≡ before
   write-keeps c = sym (left c) ∙ calls.write-keeps ns ts before (answered c)
 
   -- its number is 30, one of 1, 2 and 4 to 12, or 31
-  pub write-refusals : {number node : ℕ} → Wrote ns ts before (writings.Refused number node) after → List·Memᴰ number writeRefusals
+  pub write-refusals : {number at : ℕ} → Wrote ns ts before (writings.Refused number at) after → List·Memᴰ number writeRefusals
   write-refusals c = calls.write-number ns ts before (answered c)
 
   -- where `written n` is answered, the lists describe a model whose bytes are accepted, these are n bytes and the first of the output, and the
@@ -162,8 +162,8 @@ module _ {b ns ts numbers texts : List ℕ} where
     describe-cases = subst (Describing b ns ts) (sym (described-is c)) (calls.describing b ns ts)
 
     -- a refused model is refused with the two numbers of its verdict,
-    pub describe-refused : {number node : ℕ} → verdict b ≡ refused number node
-        → (r ≡ describings.Refused number node) × ((numbers ≡ ns) × (texts ≡ ts))
+    pub describe-refused : {number at : ℕ} → verdict b ≡ refused number at
+        → (r ≡ describings.Refused number at) × ((numbers ≡ ns) × (texts ≡ ts))
     describe-refused v = of-outcome c (calls.describing-is (refused-model v))
 
     module _ {count : ℕ} (v : verdict b ≡ accepted count) where
@@ -178,11 +178,11 @@ module _ {b ns ts numbers texts : List ℕ} where
       describe-described h = of-outcome c (calls.describing-is (on-lists v h))
 
   -- a refusal keeps both lists
-  pub describe-keeps : {number node : ℕ} → Described b ns ts (describings.Refused number node) numbers texts → (numbers ≡ ns) × (texts ≡ ts)
+  pub describe-keeps : {number at : ℕ} → Described b ns ts (describings.Refused number at) numbers texts → (numbers ≡ ns) × (texts ≡ ts)
   describe-keeps c = let (e, f) = calls.describe-keeps b ns ts (told c) in (sym (numbers-left c) ∙ e, sym (texts-left c) ∙ f)
 
   -- its number is one of a model, or 30
-  pub describe-refusals : {number node : ℕ} → Described b ns ts (describings.Refused number node) numbers texts → List·Memᴰ number describeRefusals
+  pub describe-refusals : {number at : ℕ} → Described b ns ts (describings.Refused number at) numbers texts → List·Memᴰ number describeRefusals
   describe-refusals c = calls.describe-number b ns ts (told c)
 
   -- where `described n t` is answered, the model is accepted, its lists are the first n numbers and the first t bytes, and what is behind them
@@ -276,14 +276,14 @@ described-one {a} {b} c d e f = same-calls (theorem.reading-alike a b (calls.des
 
 module _ {ns ts before after : List ℕ} {m : Model} (is : descriptionOf ns ts ≡ some m) where
   -- what `judge_model` refuses is refused by `write_model` with the same two numbers, whatever the output is,
-  pub refused-as-judged : {number node : ℕ} {r : WriteAnswer} → Judged (modelBytes m) (verdicts.Refused number node) → Wrote ns ts before r after
-      → (r ≡ writings.Refused number node) × (after ≡ before)
+  pub refused-as-judged : {number at : ℕ} {r : WriteAnswer} → Judged (modelBytes m) (verdicts.Refused number at) → Wrote ns ts before r after
+      → (r ≡ writings.Refused number at) × (after ≡ before)
   refused-as-judged j c = write-refused c is (sym (judged-is j))
 
   -- and the other way round, but for 31, where `judge_model` accepts
-  pub judged-as-refused : {number node : ℕ} {r : Verdict} → Wrote ns ts before (writings.Refused number node) after → Judged (modelBytes m) r
-      → (r ≡ verdicts.Refused number node) ⊎ ((number ≡ shortOutput) × (count : ℕ) × (r ≡ verdicts.Accepted count))
-  judged-as-refused {number} {node} {r} c j =
-      ⊎-elim (λ v. inl (same-verdict r (verdicts.Refused number node) (judged-is j ∙ v)))
+  pub judged-as-refused : {number at : ℕ} {r : Verdict} → Wrote ns ts before (writings.Refused number at) after → Judged (modelBytes m) r
+      → (r ≡ verdicts.Refused number at) ⊎ ((number ≡ shortOutput) × (count : ℕ) × (r ≡ verdicts.Accepted count))
+  judged-as-refused {number} {at} {r} c j =
+      ⊎-elim (λ v. inl (same-verdict r (verdicts.Refused number at) (judged-is j ∙ v)))
       (λ (e, count, v). inr (ap (λ (x : Refusal). x .number) e, count, same-verdict r (verdicts.Accepted count) (judged-is j ∙ v)))
       (calls.write-why ns ts before (answered c) is)
