@@ -4,13 +4,15 @@
 // A case is one letter, then its fields, each a 4-byte length (high byte first) and that many bytes. It gets one line, which ends with all
 // that was lent to the call, as the call left it:
 //
-//     V  model                         accepted NODES | refused NUMBER NODE
-//     M  model, packet name, words     match NODE BOUND | no match | refused NUMBER NODE, then the words
-//     S  model, packet name, key name  allowed PACKET KEY | not allowed | refused NUMBER NODE
-//     C  model, packet name, list      certificate INDEX | none | refused NUMBER INDEX
-//     W  numbers, texts, output        written BYTES | refused NUMBER NODE, then the output
-//     D  model, numbers, texts         described NUMBERS BYTES | refused NUMBER NODE, then the numbers and the texts
+//     V  model                         accepted NODES | refused NUMBER AT
+//     M  model, packet name, words     match NODE BOUND | no match | refused NUMBER AT, then the words
+//     S  model, packet name, key name  allowed PACKET KEY | not allowed | refused NUMBER AT
+//     C  model, packet name, list      certificate INDEX | none | refused NUMBER AT
+//     W  numbers, texts, output        written BYTES | refused NUMBER AT, then the output
+//     D  model, numbers, texts         described NUMBERS BYTES | refused NUMBER AT, then the numbers and the texts
 //     E  component, component          equal BYTES | different BYTES, the value bytes that were looked at
+//
+// AT is a refusal's second number: a Node's index, a byte's place or an entry's index, as docs/format.md, 5.1 has it for each number.
 //
 // Words are binding words of 4 bytes, numbers have 8 (high byte first): each is printed in decimal, with a blank before it. Bytes are printed
 // as one blank and lowercase hexadecimal digits; no bytes as nothing. A name has at most 4,096 bytes, words as many, and every other field
