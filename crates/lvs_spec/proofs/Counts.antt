@@ -9,7 +9,7 @@ use borrow.Author.Tests.{ltb-true, ltb-false, lt-ltb}
 use lib.Dec.{ltb}
 use lib.ListN.{length, length-replicate, getD}
 use lib.Seq.{set-out}
-use Rattle.tlv.specs.Lists.{onward, guard, isSome}
+use Rattle.tlv.specs.Lists.{onward, guard, isSome, numbered}
 use Rattle.lvs_spec.specs.Limits.{maxTag}
 use Rattle.lvs_spec.specs.Model.{Model, Edge, edges, nodeAt}
 use Rattle.lvs_spec.specs.Names.{Component}
@@ -46,21 +46,23 @@ module _ (m : Model) (l : maxTag ≤ m .patternCount) where
   abbrev all-named : Model
   all-named = counted maxTag m
 
-  cross-large : (c : Binding) (x : Match) (e : Edge) → length (x .bindings) ≡ maxTag → cross all-named c x e ≡ cross m c x e
+  cross-large : (c : Binding) (x : Match) (i : ℕ) (e : Edge) → length (x .bindings) ≡ maxTag → cross all-named c x i e ≡ cross m c x i e
   unfolding cross counted
-  cross-large c x e n = rw (after-large l (x .bindings) c e n)
+  cross-large c x i e n = rw (after-large l (x .bindings) c e n)
 
   -- behind an edge that is crossed the bindings are as long, so that a law for the rest of the name can be used
-  onward-large : {f g : Match → List (Event Match)} → ((y : Match) → length (y .bindings) ≡ maxTag → f y ≡ g y) → (c : Binding) (x : Match) (e : Edge)
-      → length (x .bindings) ≡ maxTag → (o : Option Match) → cross m c x e ≡ o → onward f (cross all-named c x e) ≡ onward g (cross m c x e)
-  onward-large h c x e n none k = rw (cross-large c x e n, k)
-  onward-large h c x e n (some y) k = rw (cross-large c x e n, k) (h y (length-changed (cross-changed m c x e k) ∙ n))
+  onward-large : {f g : Match → List (Event Match)} → ((y : Match) → length (y .bindings) ≡ maxTag → f y ≡ g y) → (c : Binding) (x : Match) (i : ℕ)
+      (e : Edge) → length (x .bindings) ≡ maxTag → (o : Option Match) → cross m c x i e ≡ o
+      → onward f (cross all-named c x i e) ≡ onward g (cross m c x i e)
+  onward-large h c x i e n none k = rw (cross-large c x i e n, k)
+  onward-large h c x i e n (some y) k = rw (cross-large c x i e n, k) (h y (length-changed (cross-changed m c x i e k) ∙ n))
 
   trace-large : (cs : List Binding) (x : Match) → length (x .bindings) ≡ maxTag → trace all-named cs x ≡ trace m cs x
   unfolding trace counted nodeAt
   trace-large [] x n = refl
   trace-large (c ∷ cs) x n =
-      each-same (λ e. ap (λ l. looked ∷ l) (onward-large (trace-large cs) c x e n (cross m c x e) refl)) (edges (nodeAt m (x .node)))
+      each-same (λ (i, e). ap (λ l. looked ∷ l) (onward-large (trace-large cs) c x i e n (cross m c x i e) refl))
+      (numbered 0 (edges (nodeAt m (x .node))))
 
   packet-large : (cs : List Component) → packetTrace all-named cs ≡ packetTrace m cs
   unfolding packetTrace begin counted noBindings

@@ -43,6 +43,16 @@ module _ (base : ℕ) (b : List ℕ) where
         go none h = clash (cc)
         go (some ds) h = few ds (ltb maxComponents (length ds)) h
 
+    -- it has few components
+    pub good-few : length cs ≤ maxComponents
+    unfolding rowReading
+    good-few = go (ltb maxComponents (length cs)) refl (rw good-components at (sym (short-reading good-short) ∙ good))
+      where
+        go : (t : Bool) → ltb maxComponents (length cs) ≡ t → cond (ltb maxComponents (length cs)) (badName (base + 2)) (goodName cs) ≡ goodName cs
+            → length cs ≤ maxComponents
+        go true p h = let h′ : badName (base + 2) ≡ goodName cs = rw p at h in clash (cc)
+        go false p h = ltb-false maxComponents (length cs) p
+
     -- it is one element
     pub good-element : (h : ℕ) × (e : Element) × (element b ≡ first h e [])
     unfolding nameOf nameFrom

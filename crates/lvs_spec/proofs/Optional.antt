@@ -17,7 +17,7 @@ use Rattle.lvs_spec.specs.Grammar.{Kind, Known, Item, Meaning, meaning, 
 use Rattle.lvs_spec.specs.WellFormed.{insideOk, inOrder, wellFormedBy, wellFormed, firstKnown, isOtherVersion, otherVersion}
 use Rattle.lvs_spec.specs.Model.{Model, modelOf}
 use Rattle.lvs_spec.specs.Verdict.{describes, reading, verdict}
-use Rattle.lvs_spec.specs.Answers.{matchOutcome, signAnswer}
+use Rattle.lvs_spec.specs.Answers.{matchOutcome, signOutcome, followAnswer}
 use Rattle.lvs_spec.specs.Certificates.{suggestAnswer}
 use Rattle.lvs_spec.specs.Gaps.{holding, bare, Inserted, here, deeper}
 use Rattle.lvs_spec.specs.Demands.{Alike}
@@ -135,7 +135,8 @@ alike-by e p q =
     record {
       verdicts = sym (p .verdicts) ∙ ap verdict e ∙ q .verdicts;
       matched = λ name buffer. sym (p .matched name buffer) ∙ ap (λ m. matchOutcome m name buffer) e ∙ q .matched name buffer;
-      signed = λ packet key. sym (p .signed packet key) ∙ ap (λ m. signAnswer m packet key) e ∙ q .signed packet key;
+      signed = λ packet key s. sym (p .signed packet key s) ∙ ap (λ m. signOutcome m packet key s) e ∙ q .signed packet key s;
+      followed = λ packet key path. sym (p .followed packet key path) ∙ ap (λ m. followAnswer m packet key path) e ∙ q .followed packet key path;
       suggested = λ packet list. sym (p .suggested packet list) ∙ ap (λ m. suggestAnswer m packet list) e ∙ q .suggested packet list;
     }
 

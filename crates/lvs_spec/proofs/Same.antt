@@ -1,5 +1,5 @@
--- Two models with the same traces have the same matches, signing answers and suggestions. Assumes nothing.
-use Prim.Native.Nat.{ℕ}
+-- Two models with the same traces have the same matches, signing outcomes, paths and suggestions. Assumes nothing.
+use Prim.Native.Nat.{ℕ, _+_}
 use mathlib.Core.Path.{_≡_, refl, sym, ap, _∙_, fun-ext}
 use mathlib.Core.Bool.{Bool, true, false}
 use mathlib.Core.List.{List, [], _∷_, _++_, List·Memᴰ, List·Memᴰ·head, List·Memᴰ·tail}
@@ -13,11 +13,14 @@ use Rattle.lvs_spec.specs.Model.{Model, modelOf}
 use Rattle.lvs_spec.specs.Verdict.{Verdict, verdict}
 use Rattle.lvs_spec.specs.Names.{Component, NameReading, badName, goodName, packetName, keyName}
 use Rattle.lvs_spec.specs.Walk.{Match, Event, looked, found, continue, answers, packetTrace, packetMatches, keyTrace, lists}
-use Rattle.lvs_spec.specs.Walk.{signed, signTrace, pairTrace}
-use Rattle.lvs_spec.specs.Answers.{usable, usableModel, matchRoom, matchName, matchIn, matchOutcome, signNames, signIn, signAnswer}
-use Rattle.lvs_spec.specs.Certificates.{Entry, entries, ListReading, manyEntries, unfitEntry, fitEntries, listReading, allows, suggested}
+use Rattle.lvs_spec.specs.Walk.{signed, signTrace, pairTrace, pairs}
+use Rattle.lvs_spec.specs.Answers.{usable, usableModel, matchRoom, matchName, matchIn, matchOutcome, inputNames, inputsIn, inputs, Buffers}
+use Rattle.lvs_spec.specs.Answers.{signRoom, signWith, signOutcome, followed, followWith, followAnswer}
+use Rattle.lvs_spec.specs.Certificates.{Entry, entries, ListReading, manyEntries, unfitEntry, fitEntries, listReading, roomy, isAllowed}
+use Rattle.lvs_spec.specs.Certificates.{allows, suggested}
 use Rattle.lvs_spec.specs.Certificates.{suggestFrom, suggestName, suggestIn, suggestAnswer}
 use Rattle.lvs_spec.proofs.Usable.{accepted-usable}
+use Rattle.lvs_spec.proofs.Following.{follow-same}
 
 -- the same edges looked at and the same answers found, in the same order, for all names
 pub record SameTraces (m n : Model) : Type 0 where
@@ -62,16 +65,26 @@ module _ {m n : Model} (s : SameTraces m n) where
       go true = refl
       go false = rw (s .packet cs)
 
-  sign-same : (r q : NameReading) → signNames m r q ≡ signNames n r q
-  unfolding signNames
-  sign-same (badName x) q = refl
-  sign-same (goodName ps) (badName x) = refl
-  sign-same (goodName ps) (goodName ks) = rw (s .pair ps ks)
+  sign-same : (r q : NameReading) (w : Buffers) → signWith (inputNames m r q) w ≡ signWith (inputNames n r q) w
+  unfolding inputNames signWith signRoom
+  sign-same (badName x) q w = refl
+  sign-same (goodName ps) (badName x) w = refl
+  sign-same (goodName ps) (goodName ks) w = go (ltb (length (w .path)) (length ps + length ks))
+    where
+      go : (t : Bool) → signRoom t m ps ks w ≡ signRoom t n ps ks w
+      go true = refl
+      go false = rw (s .pair ps ks)
+
+  path-same : (r q : NameReading) (path : List ℕ) → followWith (inputNames m r q) path ≡ followWith (inputNames n r q) path
+  unfolding inputNames followWith pairs
+  path-same (badName x) q path = refl
+  path-same (goodName ps) (badName x) path = refl
+  path-same (goodName ps) (goodName ks) path = ap followed (follow-same m n ps ks (ap answers (s .pair ps ks)) path)
 
   allows-same : (packet : List ℕ) (e : Entry) → allows m packet e ≡ allows n packet e
-  unfolding allows signIn
+  unfolding allows inputsIn
   allows-same packet none = refl
-  allows-same packet (some e) = rw (sign-same (packetName packet) (keyName (elementBytes e)))
+  allows-same packet (some e) = ap (λ o. isAllowed (o .answer)) (sign-same (packetName packet) (keyName (elementBytes e)) roomy)
 
   suggest-same : (packet : List ℕ) (r : NameReading) (es : List Entry) → suggestName m packet r es ≡ suggestName n packet r es
   unfolding suggestName suggestFrom
@@ -83,19 +96,21 @@ module _ {m n : Model} (s : SameTraces m n) where
       go (unfitEntry i) = refl
       go fitEntries = ap (λ (f : Entry → Bool). suggested (firstIndex f 0 es)) (fun-ext (allows-same packet))
 
--- the same match outcomes, signing answers and suggestions, for all names, buffers and lists
+-- the same match and signing outcomes, paths and suggestions, for all names, buffers and lists
 pub record SameAnswers (a b : List ℕ) : Type 0 where
   pub matched : (name buffer : List ℕ) → matchOutcome a name buffer ≡ matchOutcome b name buffer
-  pub signed : (packet key : List ℕ) → signAnswer a packet key ≡ signAnswer b packet key
+  pub signed : (packet key : List ℕ) (s : Buffers) → signOutcome a packet key s ≡ signOutcome b packet key s
+  pub followed : (packet key path : List ℕ) → followAnswer a packet key path ≡ followAnswer b packet key path
   pub suggested : (packet list : List ℕ) → suggestAnswer a packet list ≡ suggestAnswer b packet list
 
 -- two models that the calls go on with
 same-answers : (a b : List ℕ) {m n : Model} → usableModel a ≡ usable m → usableModel b ≡ usable n → SameTraces m n → SameAnswers a b
-unfolding matchOutcome matchIn signAnswer signIn suggestAnswer suggestIn
+unfolding matchOutcome matchIn inputs inputsIn signOutcome followAnswer suggestAnswer suggestIn
 same-answers a b p q s =
     record {
       matched = λ name buffer. rw (p, q, matchOutcome) (match-same s (packetName name) buffer);
-      signed = λ packet key. rw (p, q, signAnswer) (sign-same s (packetName packet) (keyName key));
+      signed = λ packet key w. rw (p, q, signOutcome) (sign-same s (packetName packet) (keyName key) w);
+      followed = λ packet key path. rw (p, q, followAnswer) (path-same s (packetName packet) (keyName key) path);
       suggested = λ packet list. rw (p, q, suggestAnswer) (suggest-same s packet (packetName packet) (entries list));
     }
 

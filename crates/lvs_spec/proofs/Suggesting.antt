@@ -16,8 +16,10 @@ use Rattle.tlv.proofs.RoundTrip.{element-bytes, element-fits, cuts-encoded, spl
 use Rattle.lvs_spec.specs.Model.{Model}
 use Rattle.lvs_spec.specs.Names.{Component, NameReading, badName, goodName, packetName, keyName}
 use Rattle.lvs_spec.specs.Walk.{Pair, pairs}
-use Rattle.lvs_spec.specs.Answers.{Refusal, Usable, unusable, usable, usableModel, SignAnswer, notAllowed, allowed, pairFound, signIn, signAnswer}
-use Rattle.lvs_spec.specs.Certificates.{Entry, entries, isBad, unfit, isAllowed, allows, SuggestAnswer, noCertificate, certificate, suggested}
+use Rattle.lvs_spec.specs.Answers.{Refusal, Usable, unusable, usable, usableModel, inputsIn, inputs, SignAnswer, notAllowed, allowed, SignOutcome}
+use Rattle.lvs_spec.specs.Answers.{pairFound, signWith, signOutcome}
+use Rattle.lvs_spec.specs.Certificates.{Entry, entries, isBad, unfit, isAllowed, roomy, allows, SuggestAnswer, noCertificate, certificate}
+use Rattle.lvs_spec.specs.Certificates.{suggested}
 use Rattle.lvs_spec.specs.Certificates.{ListReading, manyEntries, unfitEntry, fitEntries, listReading}
 use Rattle.lvs_spec.specs.Certificates.{suggestFrom, suggestName, suggestIn, suggestAnswer}
 use Rattle.lvs_spec.specs.Demands.{listRefusals, suggestRefusals, joined, SuggestInputs, FirstAllowed, NoCertificate}
@@ -27,6 +29,7 @@ use Rattle.lvs_spec.proofs.Indices.{index-here, index-later, index-firs
 use Rattle.lvs_spec.proofs.Names.{good-element}
 use Rattle.lvs_spec.proofs.Certificates.{reading-fit, fit-reading}
 use Rattle.lvs_spec.proofs.Refusals.{of-model, of-packet, of-own}
+use Rattle.lvs_spec.proofs.Inputs.{roomy-enough}
 use Rattle.lvs_spec.proofs.Signing.{signs-first, sign-some, sign-none}
 
 -- ---- how a call ends
@@ -80,7 +83,7 @@ badKey : List ℕ → Bool
 badKey k = isBad (keyName k)
 
 signs : Model → List ℕ → List ℕ → Bool
-signs m packet k = isAllowed (signIn (usable m) packet k)
+signs m packet k = isAllowed (signWith (inputsIn (usable m) packet k) roomy .answer)
 
 -- the entries are elements, and the names their bytes
 record Cut (list : List ℕ) (keys : List (List ℕ)) : Type 0 where
@@ -188,34 +191,38 @@ module _ {b packet list : List ℕ} {m : Model} {ps : List Component} (bytes : B
 -- ---- a certificate that is allowed, and one that is not
 
 module _ (b packet key : List ℕ) {m : Model} (used : usableModel b ≡ usable m) where
-  answer-is : signAnswer b packet key ≡ signIn (usable m) packet key
-  unfolding signAnswer
+  abbrev answer : SignAnswer
+  answer = signWith (inputsIn (usable m) packet key) roomy .answer
+
+  answer-is : signOutcome b packet key roomy .answer ≡ answer
+  unfolding signOutcome inputs
   answer-is = rw used
 
   signs-some : signs m packet key ≡ true → SomeAllowed b packet key
   unfolding signs
-  signs-some h = go (signIn (usable m) packet key) refl h
+  signs-some h = go answer refl h
     where
-      go : (a : SignAnswer) → signIn (usable m) packet key ≡ a → isAllowed a ≡ true → SomeAllowed b packet key
+      go : (a : SignAnswer) → answer ≡ a → isAllowed a ≡ true → SomeAllowed b packet key
       go (SignAnswer.refused r) p q = clash (cc)
       go notAllowed p q = clash (cc)
-      go (allowed x y) p q = sign-some b packet key .0 (x, y, answer-is ∙ p)
+      go (allowed x y) p q = sign-some b packet key roomy .0 (x, y, answer-is ∙ p) .0
 
   some-signs : SomeAllowed b packet key → signs m packet key ≡ true
   unfolding signs
-  some-signs s = let (x, y, e) = sign-some b packet key .1 s in ap isAllowed (sym answer-is ∙ e)
+  some-signs s = let (x, y, e) = sign-some b packet key roomy .1 (s, roomy-enough packet key) in ap isAllowed (sym answer-is ∙ e)
 
   signs-none : {ps ks : List Component} → packetName packet ≡ goodName ps → keyName key ≡ goodName ks → signs m packet key ≡ false → NoneAllowed b packet key
   unfolding signs pairFound
-  signs-none {ps} {ks} p k h = go (lists.first (pairs m ps ks)) (signs-first m packet key p k)
+  signs-none {ps} {ks} p k h =
+      go (lists.first (pairs m ps ks)) (ap (λ (o : SignOutcome). o .answer) (signs-first m packet key roomy p k (roomy-enough packet key .enough ps ks p k)))
     where
-      go : (o : Option Pair) → signIn (usable m) packet key ≡ pairFound o → NoneAllowed b packet key
-      go none e = sign-none b packet key .0 (answer-is ∙ e)
+      go : (o : Option Pair) → answer ≡ pairFound o roomy .answer → NoneAllowed b packet key
+      go none e = sign-none b packet key roomy .0 (answer-is ∙ e) .0
       go (some z) e = let t = sym (ap isAllowed e) ∙ h in clash (cc)
 
   none-signs : NoneAllowed b packet key → signs m packet key ≡ false
   unfolding signs
-  none-signs s = ap isAllowed (sym answer-is ∙ sign-none b packet key .1 s)
+  none-signs s = ap isAllowed (sym answer-is ∙ sign-none b packet key roomy .1 (s, roomy-enough packet key))
 
 -- ---- the theorems
 

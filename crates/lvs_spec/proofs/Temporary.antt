@@ -64,12 +64,12 @@ module _ (m : Model) where
   pub packet-named : (packet : List Component) {x : Match} → List·Memᴰ x (packetMatches m packet) → Named x
   unfolding packetMatches packetTrace matches begin
   packet-named packet i =
-      walk-keeps m Named (packetRow packet) (λ c _ x e y _ h p. named-changed p (cross-changed m c x e h)) (begin m noBindings) (none-named _) i
+      walk-keeps m Named (packetRow packet) (λ c _ x n e y _ h p. named-changed p (cross-changed m c x n e h)) (begin m noBindings) (none-named _) i
 
   pub key-named : (packet key : List Component) {x y : Match} → List·Memᴰ x (packetMatches m packet) → List·Memᴰ y (keyMatches m key x) → Named y
   unfolding keyMatches keyTrace matches begin
   key-named packet key {x} i j =
-      walk-keeps m Named (keyRow key) (λ c _ x e y _ h p. named-changed p (cross-changed m c x e h)) (begin m (x .bindings)) (packet-named packet i) j
+      walk-keeps m Named (keyRow key) (λ c _ x n e y _ h p. named-changed p (cross-changed m c x n e h)) (begin m (x .bindings)) (packet-named packet i) j
 
 -- ---- what follows for an edge, an option and an argument
 

@@ -4,13 +4,14 @@ use mathlib.Core.Bool.{Bool, true, false, cond}
 use mathlib.Core.List.{List}
 use mathlib.Core.Option.{Option, none, some}
 use lib.Dec.{ltb}
-use lib.ListN.{length}
+use lib.ListN.{length, replicate}
 use Rattle.tlv.specs.Element.{Element, cuts, pieces, elementBytes}
 use Rattle.tlv.specs.Lists.{firstIndex}
-use Rattle.lvs_spec.specs.Limits.{maxCertificates}
+use Rattle.lvs_spec.specs.Limits.{maxCertificates, pathWords}
 use Rattle.lvs_spec.specs.Model.{Model}
 use Rattle.lvs_spec.specs.Names.{NameReading, badName, goodName, packetName, keyName}
-use Rattle.lvs_spec.specs.Answers.{Refusal, Usable, unusable, usable, usableModel, plain, SignAnswer, notAllowed, allowed, signIn}
+use Rattle.lvs_spec.specs.Answers.{Refusal, Usable, unusable, usable, usableModel, plain, inputsIn}
+use Rattle.lvs_spec.specs.Answers.{SignAnswer, notAllowed, allowed, Buffers, signWith}
 
 -- an entry of the list: an element of any type, which should be a certificate's name; or `none`, a rest that cannot be cut
 abbrev pub Entry : Type 0
@@ -48,10 +49,14 @@ isAllowed (SignAnswer.refused r) = false
 isAllowed notAllowed = false
 isAllowed (allowed p k) = true
 
+-- room enough for every path
+unfoldable pub roomy : Buffers
+roomy = record { path = replicate pathWords 0 }
+
 -- the signing answer allows an entry as the key name
 unfoldable pub allows : Model → List ℕ → Entry → Bool
 allows m packet none = false
-allows m packet (some e) = isAllowed (signIn (usable m) packet (elementBytes e))
+allows m packet (some e) = isAllowed (signWith (inputsIn (usable m) packet (elementBytes e)) roomy .answer)
 
 pub data SuggestAnswer : Type 0 where
   refused : Refusal → SuggestAnswer
