@@ -2,8 +2,8 @@
 use Prim.Native.Nat.{ℕ, _-_, _≤_, _<_}
 use mathlib.Core.Path.{_≡_, refl, sym, ap, _∙_, subst}
 use mathlib.Core.Bool.{Bool, true, false, cond, _&&_}
-use mathlib.Core.List.{List}
-use mathlib.Core.Option.{none, some, Option·some-injective}
+use mathlib.Core.List.{List, [], _∷_, _++_}
+use mathlib.Core.Option.{Option, none, some, Option·some-injective}
 use native.Mathlib.Omega.{arith}
 use borrow.Author.Tests.{eqb-true}
 use lib.Dec.{eqb}
@@ -11,9 +11,9 @@ use lib.ListN.{length, take, drop, length-drop}
 use Rattle.tlv.specs.Lists.{bind, guard, all}
 use Rattle.tlv.specs.Fields.{theInside, theInteger}
 use Rattle.lvs_spec.specs.Types as type
-use Rattle.lvs_spec.specs.Model.{Edge, componentOf, valueEdgeOf, patternEdgeOf, destination}
+use Rattle.lvs_spec.specs.Model.{Model, Edge, componentOf, valueEdgeOf, patternEdgeOf, destination}
 use Rattle.lvs_spec.specs.Names.{same}
-use Rattle.lvs_spec.specs.Walk.{Binding, Bindings, Match, bound, bindTag, boundTo, constraintHolds, crosses, bindingsAfter}
+use Rattle.lvs_spec.specs.Walk.{Binding, Bindings, Match, bound, bindTag, boundTo, constraintHolds, crosses, bindingsAfter, cross}
 use Rattle.lvs_spec.specs.Demands.{OnlyNamed}
 use Rattle.lvs_spec.proofs.Lists.{bind-from}
 use Rattle.lvs_spec.proofs.Temporary.{named-after, temporary-crosses, temporary-stays}
@@ -23,13 +23,13 @@ use Rattle.lvs_bindings.specs.declared.Slot.{Slot}
 use Rattle.lvs_bindings.proofs.Slots.{to-end, unbound, is-bound, bound-most, bound-long, bound-bindings, bound-back}
 use Rattle.lvs_constraints.proofs.Holds.{all-empty}
 use Rattle.lvs_edges.specs.Edges.{edgeOf}
-use Rattle.lvs_edges.specs.Crossing.{Ready, FieldsOf, leadsTo, openIf, Crossed, CrossedValue}
+use Rattle.lvs_edges.specs.Crossing.{Ready, FieldsOf, Reached, leadsTo, reached, openIf, Crossed, CrossedValue}
 use Rattle.lvs_edges.specs.declared.PatternFields.{PatternFields}
 use Rattle.lvs_edges.specs.declared.Crossing.{Crossing}
 use Rattle.lvs_edges.specs.declared.Crossing.the-variants.{Shut, Open}
 
 led : (t : Bool) (d : ℕ) (s : Bindings)
-    → (bind {B = Match} (guard t s) λ x. some (record { node = d; bindings = x })) ≡ cond t (some (record { node = d; bindings = s })) none
+    → (bind {B = Reached} (guard t s) λ x. some (record { node = d; bindings = x })) ≡ cond t (some (record { node = d; bindings = s })) none
 led true d s = refl
 led false d s = refl
 
@@ -176,5 +176,27 @@ unfolding leadsTo without
 crossed-named {count} Shut named crossed = subst (OnlyNamed count) (sym (crossed .back)) named
 crossed-named {count} {packet} {key} {before} {after} {e} {b} (Open d t) named crossed =
     let (s, a, k) = bind-from (bindingsAfter count (bindingsOf packet key before) b e) _ (crossed .leads) in
-    let same-bindings = ap (λ (x : Match). x .bindings) (Option·some-injective _ _ k) in
+    let same-bindings = ap (λ (x : Reached). x .bindings) (Option·some-injective _ _ k) in
     subst (OnlyNamed count) same-bindings (named-after count (bindingsOf packet key before) b e named a)
+
+-- a Node reached by a path
+abbrev pub arriving : List ℕ → Reached → Option Match
+arriving p q = some (record { node = q .node; bindings = q .bindings; path = p })
+
+cross-leads : (m : Model) (b : Binding) (x : Match) (i : ℕ) (e : Edge)
+    → cross m b x i e ≡ bind (leadsTo (m .patternCount) (x .bindings) b e) (arriving (x .path ++ (i ∷ [])))
+unfolding cross leadsTo
+cross-leads m b x i e = go (bindingsAfter (m .patternCount) (x .bindings) b e)
+  where
+    go : (o : Option Bindings)
+        → (bind {B = Match} o λ s. some (record { node = destination e; bindings = s; path = x .path ++ (i ∷ []) })) ≡
+        bind (bind {B = Reached} o λ s. some (record { node = destination e; bindings = s })) (arriving (x .path ++ (i ∷ [])))
+    go none = refl
+    go (some s) = refl
+
+-- the step of a walk that a crossing is, from x with the edge of ordinal i
+pub crossed-step : {count : ℕ} {packet key before after : List ℕ} {e : Edge} {b : Binding} {r : Crossing} (m : Model) (x : Match) (i : ℕ)
+    → count ≡ m .patternCount → bindingsOf packet key before ≡ x .bindings → Crossed count packet key e b before r after
+    → cross m b x i e ≡ bind (reached r (bindingsOf packet key after)) (arriving (x .path ++ (i ∷ [])))
+crossed-step {e = e} {b = b} m x i count-is before-is crossed =
+    cross-leads m b x i e ∙ ap (λ o. bind o (arriving (x .path ++ (i ∷ [])))) (rw (count-is, before-is) at (crossed .leads))

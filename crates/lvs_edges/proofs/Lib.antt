@@ -4,3 +4,4 @@ pub mod Places
 pub mod Plain
 pub mod Crossed
 pub mod Ordered
+pub mod Rows

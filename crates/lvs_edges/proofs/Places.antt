@@ -11,7 +11,7 @@ use lib.ListN.{length, take, drop, getD, set, replicate, length-set, length-drop
 use lib.Seq.{drop-cons, getD-set-same, getD-set-other, length-take-le}
 use Rattle.tlv.specs.declared.Place.{Place}
 use Rattle.tlv.proofs.Cuts.{Step}
-use Rattle.lvs_spec.specs.Limits.{maxNodes}
+use Rattle.lvs_spec.specs.Limits.{maxModelBytes, maxNodes}
 use Rattle.lvs_spec.specs.Types as type
 use Rattle.tlv.specs.Fields.{insides}
 use Rattle.tlv.specs.declared.Part.{Part}
@@ -70,6 +70,13 @@ part-words p q = λ i. record { start = p i; end = q i }
 
 pub body-of-part : {model places : List ℕ} {v : ℕ} {p : Part} → NodesAt model places → p ≡ partAt places v → BodyPart model v p
 body-of-part {v = v} N e = rw e (N .body v)
+
+-- such a part is no longer than a model
+pub body-short : {model : List ℕ} {v : ℕ} {p : Part} → length model ≤ maxModelBytes → BodyPart model v p
+    → length (take (p .end - p .start) (drop (p .start) model)) ≤ maxModelBytes
+body-short {model} {p = p} short B =
+    let l = length-drop (p .start) model in
+    omega (arith, short, B .order, B .within, length-take-le (p .end - p .start) (drop (p .start) model) (omega (arith, l, B .order, B .within)))
 
 -- the words of the first n Nodes are there, and the others are 0; the Nodes from `at` on are the rest
 pub record Filled (model places : List ℕ) (n at : ℕ) : Type 0 where
@@ -140,7 +147,7 @@ module _ {model places : List ℕ} {n at : ℕ} (F : Filled model places n at) w
   filled-all W st =
       let none-left : drop n (insides type.Node model) ≡ [] = sym (F .rest) ∙ insides-stop type.Node st in
       let all-of : length (insides type.Node model) ≤ n = omega (arith, ap length none-left, length-drop n (insides type.Node model)) in
-      record { body = λ v. go v (ltb v n) refl all-of }
+      record { short = W .short; body = λ v. go v (ltb v n) refl all-of }
     where
       go : (v : ℕ) (b : Bool) → ltb v n ≡ b → length (insides type.Node model) ≤ n → BodyPart model v (partAt places v)
       go v true q l = F .bodies v (ltb-true v n q)

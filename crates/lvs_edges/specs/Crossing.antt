@@ -10,7 +10,7 @@ use Rattle.tlv.specs.Fields.{insides, theInteger}
 use Rattle.lvs_spec.specs.Limits.{maxTag}
 use Rattle.lvs_spec.specs.Types as type
 use Rattle.lvs_spec.specs.Model.{Edge, componentOf, destination}
-use Rattle.lvs_spec.specs.Walk.{Binding, Bindings, Match, bindingsAfter}
+use Rattle.lvs_spec.specs.Walk.{Binding, Bindings, bindingsAfter}
 use Rattle.lvs_spec.specs.Demands.{OnlyNamed}
 use Rattle.lvs_names.specs.Contents.{Alone}
 use Rattle.lvs_bindings.specs.Slots.{Room, textFrom, bindingsOf, without}
@@ -61,12 +61,17 @@ pub record FieldsOf (s : List ℕ) (f : PatternFields) : Type 0 where
   pub within : f .rest ≤ length s
   pub constraints : insides type.Constraint (drop (f .rest) s) ≡ insides type.Constraint s
 
--- where an edge leads with the component of b, and the bindings there; nothing where it is not crossed. `count` Tags are named
-unfoldable pub leadsTo : ℕ → Bindings → Binding → Edge → Option Match
+-- a Node that an edge leads to, and the bindings there
+pub record Reached : Type 0 where
+  pub node : ℕ
+  pub bindings : Bindings
+
+-- where an edge leads with the component of b; nothing where it is not crossed. `count` Tags are named
+unfoldable pub leadsTo : ℕ → Bindings → Binding → Edge → Option Reached
 leadsTo count s b e = bind (bindingsAfter count s b e) λ t. some (record { node = destination e; bindings = t })
 
--- the match that a crossing stands for, with these bindings after it
-abbrev pub reached : Crossing → Bindings → Option Match
+-- what a crossing stands for, with these bindings after it
+abbrev pub reached : Crossing → Bindings → Option Reached
 reached Shut s = none
 reached (Open d t) s = some (record { node = d; bindings = s })
 

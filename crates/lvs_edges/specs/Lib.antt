@@ -1,3 +1,4 @@
 pub mod Edges
 pub mod Nodes
 pub mod Crossing
+pub mod Sides

@@ -51,6 +51,7 @@ unfoldable pub partAt : List ℕ → ℕ → Part
 partAt places v =
     cond (ltb v maxNodes) (record { start = getD places (v * 2) 0; end = getD places (v * 2 + 1) 0 }) (record { start = 0; end = 0 })
 
--- the words of every Node, and of those that the model does not have
+-- the words of every Node, and of those that a model of few bytes does not have
 pub record NodesAt (model places : List ℕ) : Type 0 where
+  pub short : length model ≤ maxModelBytes
   pub body : (v : ℕ) → BodyPart model v (partAt places v)

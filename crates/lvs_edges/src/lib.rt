@@ -4,6 +4,7 @@
 // stand, and `c` the bytes of the component that is to pass, which stands at `at` of the names' text and has a header of `header` bytes. `requires`
 // asks for that.
 pub mod nodes;
+pub mod sides;
 
 ghost use mathlib.Core.Path.{_≡_};
 ghost use mathlib.Core.Bool.{true};

@@ -3,24 +3,29 @@
 // A layer below the public calls, which refuse what is too long before they come here: that, places that `node_places` has filled, and
 // slots in which nothing is bound at the start, is what `requires` asks.
 //
-// `places` has the words of each Node, `named` is NamedPatternCnt, `packet` and `key` are the two names, `slots` the bindings as they stand.
+// `places` has the words of each Node, `named` is NamedPatternCnt, `packet` and `key` are the two names, `slots` the bindings as they stand. The
+// words of a path are written on the way back from a hit, each where its depth says, so that without a hit none is; one that `path` has no
+// room for is left out.
 use lvs_bindings::SLOT_WORDS;
 use lvs_edges::Crossing;
 use lvs_edges::EdgeRead;
 use lvs_edges::nodes::PLACE_WORDS;
+use lvs_edges::sides::Side;
 use lvs_names::ComponentRead;
 use lvs_spec::types::NAMED_PATTERN_CNT;
 use lvs_spec::types::NODE_ID;
 ghost use mathlib.Core.Path.{_≡_};
-ghost use Prim.Native.Nat.{_+_, _≤_};
-ghost use lib.ListN.{length};
+ghost use mathlib.Core.List.{[]};
+ghost use Prim.Native.Nat.{_+_, _*_, _≤_, _<_};
+ghost use lib.ListN.{length, set};
 ghost use Rattle.lvs_spec.specs.Limits.{maxNameBytes};
 ghost use Rattle.lvs_spec.specs.Model.{modelOf};
 ghost use Rattle.lvs_spec.specs.Walk.{lists};
 ghost use Rattle.lvs_names.specs.Rows.{rowFrom};
 ghost use Rattle.lvs_bindings.specs.Slots.{bindingsOf};
 ghost use Rattle.lvs_edges.specs.Nodes.{NodesAt};
-ghost use Rattle.lvs_walk.specs.Search.{hits, nameFor, rowFor, textPlace, foundIf, Within, Started, First};
+ghost use Rattle.lvs_edges.specs.Sides.{rowFor};
+ghost use Rattle.lvs_walk.specs.Search.{hits, sideOf, foundIf, Within, Started, bytesLeft, First};
 ghost use Rattle.lvs_walk.specs.Calls.{clear, FirstMatch, FirstPair};
 
 // What is looked for: any match; a packet match with a key match after it, which starts at a node and at a place of the key's name; a key
@@ -38,25 +43,13 @@ pub enum Found {
 }
 
 // The name that a goal walks.
-fn name_for<'a>(packet: &'a [u8], key: &'a [u8], goal: Goal) -> &'a [u8]
-    ensures { λ r. ⌜ now r ≡ nameFor (now (packet .entry)) (now (key .entry)) goal ⌝ }
+fn side_of(goal: Goal) -> Side
+    ensures { λ r. ⌜ r ≡ sideOf goal ⌝ }
 {
     match goal {
-        Goal::Match => packet,
-        Goal::Packet { start: _, from: _ } => packet,
-        Goal::Key(_) => key,
-    }
-}
-
-// Where a place of that name lies in the text.
-fn text_place(packet: &[u8], goal: Goal, at: usize) -> usize
-    requires { ⌜ (length (now packet) ≤ maxNameBytes) × (at ≤ maxNameBytes) ⌝ }
-    ensures { λ r. ⌜ r ≡ textPlace (now (packet .entry)) goal at ⌝ }
-{
-    match goal {
-        Goal::Match => at,
-        Goal::Packet { start: _, from: _ } => at,
-        Goal::Key(_) => packet.len() + at,
+        Goal::Match => Side::Packet,
+        Goal::Packet { start: _, from: _ } => Side::Packet,
+        Goal::Key(_) => Side::Key,
     }
 }
 
@@ -71,8 +64,18 @@ fn if_listed(model: &[u8], places: &[u32; PLACE_WORDS], packet: u64, node: u64) 
     Found::Nothing
 }
 
-// The first hit of the walk from `node` on with the components from `at` on. On a hit the slots hold its bindings; else no Tag is bound that was
-// not before.
+// Writes the word of a path for an edge, where there is room for it.
+fn put_word(path: &mut [u16], depth: usize, ordinal: usize)
+    requires { ⌜ ordinal < 65536 ⌝ }
+    ensures { λ _. ⌜ now (path .exit) ≡ set (now (path .entry)) depth ordinal ⌝ }
+{
+    if depth < path.len() {
+        path[depth] = ordinal as u16;
+    }
+}
+
+// The first hit of the walk from `node` on with the components from `at` on; `depth` edges were crossed before. On a hit the slots hold its
+// bindings and the path its words; else no Tag is bound that was not before, and the path is kept.
 fn walk<'a>(
     model: &[u8],
     places: &[u32; PLACE_WORDS],
@@ -82,38 +85,56 @@ fn walk<'a>(
     goal: Goal,
     node: u64,
     at: usize,
+    depth: usize,
     slots: &mut [u32; SLOT_WORDS],
+    path: &mut [u16],
 ) -> Found
     requires { ⌜ Within (now model) (now places) named (now packet) (now key) (now slots) ⌝ }
-    requires { ⌜ Started (modelOf (now model)) goal ⌝ }
+    requires { ⌜ Started (modelOf (now model)) goal × (depth + bytesLeft (now packet) (now key) goal at ≤ maxNameBytes * 3) ⌝ }
     ensures { λ r. ⌜ First (now (packet .entry)) (now (key .entry))
-        (hits (modelOf (now (model .entry))) (now (key .entry)) goal (rowFor (now (packet .entry)) (now (key .entry)) goal at)
-        (record { node = node; bindings = bindingsOf (now (packet .entry)) (now (key .entry)) (now (slots .entry)) }))
-        (now (slots .entry)) r (now (slots .exit)) ⌝ }
+        (hits (modelOf (now (model .entry))) (now (key .entry)) goal (rowFor (now (packet .entry)) (now (key .entry)) (sideOf goal) at)
+        (record { node = node; bindings = bindingsOf (now (packet .entry)) (now (key .entry)) (now (slots .entry)); path = [] }))
+        depth (now (slots .entry)) (now (path .entry)) r (now (slots .exit)) (now (path .exit)) ⌝ }
 {
-    let name = name_for(packet, key, goal);
+    let side = side_of(goal);
+    let name = lvs_edges::sides::name_for(packet, key, side);
     let ComponentRead::Component(header, end) = lvs_names::component_at(name, at) else {
         return match goal {
             Goal::Match => Found::At(node, node),
             Goal::Packet { start, from } => {
                 let then = Goal::Key(node);
-                walk(model, places, named, packet, key, then, start, from, slots)
+                walk(
+                    model,
+                    places,
+                    named,
+                    packet,
+                    key,
+                    then,
+                    start,
+                    from,
+                    depth,
+                    slots,
+                    path,
+                )
             }
             Goal::Key(p) => if_listed(model, places, p, node),
         };
     };
     let c = &name[at..end];
-    let text = text_place(packet, goal, at);
+    let text = lvs_edges::sides::text_place(packet, side, at);
     let part = lvs_edges::nodes::node_part(places, node);
     let a = part.start;
     let b = part.end;
     let edges = &model[a..b];
     let mut from = 0;
+    let mut ordinal: usize = 0;
     loop {
         let EdgeRead::Edge(pattern, p, q, next) = lvs_edges::edge_from(edges, from) else {
             return Found::Nothing;
         };
         from = next;
+        let i = ordinal;
+        ordinal += 1;
         let crossing = lvs_edges::cross(
             &edges[p..q],
             pattern,
@@ -126,8 +147,21 @@ fn walk<'a>(
             slots,
         );
         if let Crossing::Open(dest, bound) = crossing {
-            let r = walk(model, places, named, packet, key, goal, dest, end, slots);
+            let r = walk(
+                model,
+                places,
+                named,
+                packet,
+                key,
+                goal,
+                dest,
+                end,
+                depth + 1,
+                slots,
+                path,
+            );
             if let Found::At(_, _) = r {
+                put_word(path, depth, i);
                 return r;
             }
             lvs_bindings::unbind_tag(slots, bound);
@@ -150,6 +184,7 @@ pub fn find_match(
 {
     let start = tlv::number_in(model, NODE_ID);
     let named = tlv::number_in(model, NAMED_PATTERN_CNT);
+    let mut path = [0u16; 1];
     walk(
         model,
         places,
@@ -159,11 +194,13 @@ pub fn find_match(
         Goal::Match,
         start,
         from,
+        0,
         slots,
+        &mut path[..0],
     )
 }
 
-// The first pair of a packet match and a key match that may sign it.
+// The first pair of a packet match and a key match that may sign it; its path is written, as far as there is room.
 pub fn find_pair<'a>(
     model: &[u8],
     places: &[u32; PLACE_WORDS],
@@ -171,10 +208,12 @@ pub fn find_pair<'a>(
     packet_from: usize,
     key: &'a [u8],
     key_from: usize,
+    path: &mut [u16],
 ) -> Found
     requires { ⌜ NodesAt (now model) (now places) ⌝ }
     requires { ⌜ (length (now packet) ≤ maxNameBytes) × (length (now key) ≤ maxNameBytes) ⌝ }
-    ensures { λ r. ⌜ FirstPair (modelOf (now (model .entry))) (rowFrom (now (packet .entry)) «packet_from») (rowFrom (now (key .entry)) «key_from») r ⌝ }
+    ensures { λ r. ⌜ FirstPair (modelOf (now (model .entry))) (rowFrom (now (packet .entry)) «packet_from») (rowFrom (now (key .entry)) «key_from»)
+        (now (path .entry)) r (now (path .exit)) ⌝ }
 {
     let start = tlv::number_in(model, NODE_ID);
     let named = tlv::number_in(model, NAMED_PATTERN_CNT);
@@ -192,6 +231,8 @@ pub fn find_pair<'a>(
         goal,
         start,
         packet_from,
+        0,
         &mut slots,
+        path,
     )
 }

@@ -1,7 +1,7 @@
 -- `lvs_walk::walk` meets its contract. It calls itself on the components that are left, and from a packet match on the key: that is the measure.
--- The loop goes over the Node's edges; its invariant `Turn`: no edge so far has a hit, and the bindings are as they were. Assumes nothing.
-use Prim.Native.Nat.{ℕ, _+_, _-_, _<_}
-use mathlib.Core.Path.{_≡_, refl, ap}
+-- The loop goes over the Node's edges; its invariant `Turn`: no edge so far has a hit, and bindings and path are as they were. Assumes nothing.
+use Prim.Native.Nat.{ℕ, _+_, _*_, _-_, _≤_, _<_}
+use mathlib.Core.Path.{_≡_, refl, ap, _∙_}
 use mathlib.Core.List.{List, []}
 use native.Mathlib.Omega.{arith}
 use borrow.Author.Needs.{needs}
@@ -12,13 +12,15 @@ use Rattle.lvs_spec.specs.Limits.{maxNameBytes}
 use Rattle.lvs_spec.specs.Model.{modelOf}
 use Rattle.lvs_names.specs.Contents.{RowStep}
 use Rattle.lvs_edges.specs.Nodes.{BodyPart}
-use Rattle.lvs_edges.proofs.Places.{body-of-part}
+use Rattle.lvs_edges.proofs.Places.{body-of-part, body-short}
+use Rattle.lvs_edges.specs.Sides.{nameFor, rowFor, textPlace}
 use Rattle.lvs_edges.proofs.Crossed.{crossed-named}
-use Rattle.lvs_walk.specs.Search.{nameFor, rowFor, Within}
+use Rattle.lvs_edges.proofs.Rows.{Component, name-short, has-component, no-component, component}
+use Rattle.lvs_walk.specs.Search.{sideOf, Within, bytesLeft, afterwards}
 use Rattle.lvs_walk.specs.declared.Goal.{Goal}
-use Rattle.lvs_walk.proofs.Rows.{Component, name-short, has-component, no-component, component}
+use Rattle.lvs_walk.proofs.Words.{length-first}
 use Rattle.lvs_walk.proofs.Hits.{end-match, end-packet, end-key}
-use Rattle.lvs_walk.proofs.Turns.{Turn, searchAt, begun, ahead, turn-first, turn-named, turn-none, edge-at, turn-shut, turn-back, turn-found}
+use Rattle.lvs_walk.proofs.Turns.{Turn, searchAt, begun, turn-first, turn-named, turn-none, edge-at, ordinal-low, turn-shut, turn-back, turn-found}
 use Rattle.lvs_walk.proofs.walk.Reads as walk
 use Rattle.lvs_walk.proofs.walk.Kinds as walk-kinds
 use Rattle.lvs_walk.proofs.+walk.Lts-walk as walk-lts
@@ -26,28 +28,29 @@ use Rattle.lvs_bindings.proofs.unbind_tag.Reads as unbind-tag-reads
 use Rattle.lvs_edges.proofs.cross.Reads as cross-reads
 use Rattle.lvs_edges.proofs.edge_from.Reads as edge-from-reads
 use Rattle.lvs_edges.proofs.nodes.node_part.Reads as node-part-reads
+use Rattle.lvs_edges.proofs.sides.name_for.Reads as name-for-reads
+use Rattle.lvs_edges.proofs.sides.text_place.Reads as text-place-reads
 use Rattle.lvs_names.proofs.component_at.Reads as component-at-reads
 use Rattle.lvs_walk.proofs.if_listed.Reads as if-listed-reads
-use Rattle.lvs_walk.proofs.name_for.Reads as name-for-reads
-use Rattle.lvs_walk.proofs.text_place.Reads as text-place-reads
+use Rattle.lvs_walk.proofs.put_word.Reads as put-word-reads
+use Rattle.lvs_walk.proofs.side_of.Reads as side-of-reads
 use Rattle.lvs_walk.proofs.+walk.{statement}
 use Rattle.lvs_walk.proofs.+walk.Tie.{close}
 
-abbrev measure : List ℕ → List ℕ → Goal → ℕ → ℕ
-measure packet key goal at = length (nameFor packet key goal) - at + ahead key goal
+abbrev μ-walk : Measures 5 walk-kinds.ps ℕ
+μ-walk κs a = bytesLeft (a .1 .1 .1 .0 .now) (a .1 .1 .1 .1 .0 .now) (a .1 .1 .1 .1 .1 .0) (a .1 .1 .1 .1 .1 .1 .1 .0)
 
-abbrev μ-walk : Measures 4 walk-kinds.ps ℕ
-μ-walk κs a = measure (a .1 .1 .1 .0 .now) (a .1 .1 .1 .1 .0 .now) (a .1 .1 .1 .1 .1 .0) (a .1 .1 .1 .1 .1 .1 .1 .0)
+abbrev walk-at : ℕ → In 5 walk-kinds.ps
+walk-at t = and 5 walk-kinds.ps (is 5 walk-kinds.ps μ-walk t) walk.Pre
 
-abbrev walk-at : ℕ → In 4 walk-kinds.ps
-walk-at t = and 4 walk-kinds.ps (is 4 walk-kinds.ps μ-walk t) walk.Pre
-
-abbrev walk-below : ℕ → In 4 walk-kinds.ps
-walk-below t = and 4 walk-kinds.ps (falls 4 walk-kinds.ps _<_ μ-walk t) walk.Pre
+abbrev walk-below : ℕ → In 5 walk-kinds.ps
+walk-below t = and 5 walk-kinds.ps (falls 5 walk-kinds.ps _<_ μ-walk t) walk.Pre
 
 -- what is known of the calls, with the measure below t at a call of `walk`
 abbrev calls : ℕ → walk-lts.Claims
 calls t = (
+  side-of-reads.Asked,
+  side-of-reads.Learnt,
   name-for-reads.Asked,
   name-for-reads.Learnt,
   component-at-reads.Asked,
@@ -64,47 +67,60 @@ calls t = (
   edge-from-reads.Learnt,
   cross-reads.Asked,
   cross-reads.Learnt,
+  put-word-reads.Asked,
+  put-word-reads.Learnt,
   unbind-tag-reads.Asked,
   unbind-tag-reads.Learnt,
 )
 
 abbrev Inv : walk-lts.InvT-loop
-Inv model places named packet key goal node at slots₀ header end c text a b edges from₀ slots from =
-    Turn (searchAt model named packet key goal node end text c slots₀ edges) slots from
+Inv model places named packet key goal node at depth slots₀ path₀ header end c text a b edges from₀ ordinal₀ slots path from ordinal =
+    Turn (searchAt model named packet key goal node end depth text c slots₀ path₀ edges) slots path from ordinal
 
 abbrev μ : walk-lts.MeasureT-loop
-μ model places named packet key goal node at slots₀ header end c text a b edges from₀ slots from = length edges - from
+μ model places named packet key goal node at depth slots₀ path₀ header end c text a b edges from₀ ordinal₀ slots path from ordinal = length edges - from
 
 -- a need, or a place of the code, with all this
-abbrev at : (walk-lts.Claims → In 4 walk-kinds.ps → Out 4 walk-kinds.ps walk-kinds.r → walk-lts.InvT-loop → walk-lts.MeasureT-loop → Type 0) → ℕ → Type 0
+abbrev at : (walk-lts.Claims → In 5 walk-kinds.ps → Out 5 walk-kinds.ps walk-kinds.r → walk-lts.InvT-loop → walk-lts.MeasureT-loop → Type 0) → ℕ → Type 0
 at N t = N (calls t) (walk-at t) walk.Post Inv μ
 
 -- ---- names for places of the code, and what is known there
 
 abbrev start : (t : ℕ) → at walk-lts.After-component-at t → at walk-lts.Start t
-start t c = c .before .before .before .before .before
+start t c = c .before .before .before .before .before .before .before
 
 within : (t : ℕ) (c : at walk-lts.Start t)
     → Within (c .args .model .now) (c .args .places .now) (c .args .named) (c .args .packet .now) (c .args .key .now) (c .args .slots .now)
 within t c = c .pre .1 .0
 
+-- the edges crossed before are few
+few : (t : ℕ) (c : at walk-lts.Start t) → c .args .depth + bytesLeft (c .args .packet .now) (c .args .key .now) (c .args .goal) (c .args .at) ≤ maxNameBytes * 3
+few t c = c .pre .1 .1 .1
+
+-- the name that is walked
+named-for : (t : ℕ) (c : at walk-lts.After-component-at t)
+    → let s = start t c in c .before .name-for .result .now ≡ nameFor (s .args .packet .now) (s .args .key .now) (sideOf (s .args .goal))
+named-for t c =
+    let s = start t c in
+    c .before .name-for .ensures ∙ ap (nameFor (s .args .packet .now) (s .args .key .now)) (c .before .before .side-of .ensures)
+
 -- no component is left
 ended : (t : ℕ) (c : at walk-lts.After-enum-told t)
-    → let s = start t (c .before .before) in rowFor (s .args .packet .now) (s .args .key .now) (s .args .goal) (s .args .at) ≡ []
+    → let s = start t (c .before .before) in rowFor (s .args .packet .now) (s .args .key .now) (sideOf (s .args .goal)) (s .args .at) ≡ []
 ended t c =
     let read = c .before .before in
     let s = start t read in
-    no-component (s .args .packet .now) (s .args .key .now) (s .args .goal) (s .args .at) (read .before .name-for .ensures) (read .component-at .ensures)
+    no-component (s .args .packet .now) (s .args .key .now) (sideOf (s .args .goal)) (s .args .at) (named-for t read) (read .component-at .ensures)
     (c .enum-told .given .1)
 
 -- there is one
 step : (t : ℕ) (c : at walk-lts.After-header t)
     → let s = start t (c .before .before) in
-    RowStep (nameFor (s .args .packet .now) (s .args .key .now) (s .args .goal)) (s .args .at) (c .header .given .0 .0) (c .header .given .0 .1 .0)
+    RowStep (nameFor (s .args .packet .now) (s .args .key .now) (sideOf (s .args .goal))) (s .args .at) (c .header .given .0 .0) (c .header .given .0 .1 .0)
 step t c =
     let read = c .before .before in
     let s = start t read in
-    has-component (s .args .packet .now) (s .args .key .now) (s .args .goal) (s .args .at) (read .before .name-for .ensures) (read .component-at .ensures)
+    has-component (s .args .packet .now) (s .args .key .now) (sideOf (s .args .goal)) (s .args .at) (named-for t read) (read .component-at .ensures)
     (c .header .given .1)
 
 -- where the component is in the two names' text, and the rest of the row
@@ -113,13 +129,15 @@ here : (t : ℕ) (c : at walk-lts.After-text-place t)
     let s = start t (found .before .before) in
     let header = found .header .given .0 .0 in
     let stop = found .header .given .0 .1 .0 in
-    Component (s .args .packet .now) (s .args .key .now) (s .args .goal) (s .args .at) header stop (c .text-place .result)
+    Component (s .args .packet .now) (s .args .key .now) (sideOf (s .args .goal)) (s .args .at) header stop (c .text-place .result)
     (take (stop - s .args .at) (drop (s .args .at) (found .before .before .before .name-for .result .now)))
 here t c =
     let found = c .before .before .before in
-    let s = start t (found .before .before) in
-    component (s .args .packet .now) (s .args .key .now) (s .args .goal) (s .args .at) (within t s .packet-short) (within t s .key-short)
-    (found .before .before .before .name-for .ensures) refl (c .text-place .ensures) (step t found)
+    let read = found .before .before in
+    let s = start t read in
+    let place = c .text-place .ensures ∙ ap (λ side. textPlace (s .args .packet .now) side (s .args .at)) (read .before .before .side-of .ensures) in
+    component (s .args .packet .now) (s .args .key .now) (sideOf (s .args .goal)) (s .args .at) (within t s .packet-short) (within t s .key-short)
+    (named-for t read) refl place (step t found)
 
 -- the part of the model that has the Node's edges
 body : (t : ℕ) (c : at walk-lts.After-node-part t)
@@ -145,11 +163,11 @@ turn t c = edge t c .before .before .before
 -- ---- no component is left
 
 walk-requires : (t : ℕ) → at walk-lts.Need-walk-requires t
-unfolding nameFor
+unfolding nameFor sideOf
 walk-requires t c κs =
-    let s = start t (c .before .before .before .before .before .before) in
-    let g = ap (ahead (s .args .key .now)) (c .before .before .goal .given .1) in
-    (omega (arith, s .pre .0, g), (within t s, tt))
+    let s = start t (c .before .before .before .before .before .before .before) in
+    let g = ap (afterwards (s .args .key .now)) (c .before .before .before .goal .given .1) in
+    (omega (arith, s .pre .0, g), (within t s, (tt, omega (arith, few t s, g))))
 
 if-listed-requires : (t : ℕ) → at walk-lts.Need-if-listed-requires t
 if-listed-requires t c κs = within t (start t (c .before .before .before .before .before)) .nodes
@@ -158,23 +176,23 @@ returns : (t : ℕ) → at walk-lts.Need-returns t
 returns t c =
     let e = c .before .before in
     let s = start t (e .before .before) in
-    end-match (modelOf (s .args .model .now)) (s .args .packet .now) (s .args .key .now) (s .args .goal) (s .args .node) (s .args .at) (s .args .slots .now)
-    (within t s .room) (ended t e) (c .enum-told2 .given .1)
+    end-match (modelOf (s .args .model .now)) (s .args .packet .now) (s .args .key .now) (s .args .goal) (s .args .node) (s .args .at) (s .args .depth)
+    (s .args .slots .now) (s .args .path .now) (within t s .room) (ended t e) (c .enum-told2 .given .1)
 
 returns-2 : (t : ℕ) → at walk-lts.Need-returns-2 t
 returns-2 t c =
-    let e = c .before .before .before .before .before in
+    let e = c .before .before .before .before .before .before .before .before in
     let s = start t (e .before .before) in
-    let g = c .before .before .before .goal .given .1 in
-    end-packet (modelOf (s .args .model .now)) (s .args .packet .now) (s .args .key .now) (s .args .goal) (s .args .node) (s .args .at) (s .args .slots .now)
-    (within t s .room) (ended t e) g (s .pre .1 .1) (c .walk .ensures)
+    let g = c .before .before .before .before .before .before .goal .given .1 in
+    end-packet (modelOf (s .args .model .now)) (s .args .packet .now) (s .args .key .now) (s .args .goal) (s .args .node) (s .args .at) (s .args .depth)
+    (s .args .slots .now) (s .args .path .now) (within t s .room) (ended t e) g (s .pre .1 .1 .0) (c .before .before .walk .ensures)
 
 returns-3 : (t : ℕ) → at walk-lts.Need-returns-3 t
 returns-3 t c =
     let e = c .before .before .before .before in
     let s = start t (e .before .before) in
-    end-key (modelOf (s .args .model .now)) (s .args .packet .now) (s .args .key .now) (s .args .goal) (s .args .node) (s .args .at) (s .args .slots .now)
-    (within t s .room) (ended t e) (c .before .before .goal2 .given .1) (c .if-listed .ensures)
+    end-key (modelOf (s .args .model .now)) (s .args .packet .now) (s .args .key .now) (s .args .goal) (s .args .node) (s .args .at) (s .args .depth)
+    (s .args .slots .now) (s .args .path .now) (within t s .room) (ended t e) (c .before .before .goal2 .given .1) (c .if-listed .ensures)
 
 -- ---- the component and the Node
 
@@ -185,13 +203,13 @@ part-c-start : (t : ℕ) → at walk-lts.Need-part-c-start t
 part-c-start t c = let f = step t (c .before) in omega (arith, f .after)
 
 part-c-end : (t : ℕ) → at walk-lts.Need-part-c-end t
-part-c-end t c = rw (c .before .before .before .before .name-for .ensures) (step t (c .before) .within)
+part-c-end t c = rw (named-for t (c .before .before .before)) (step t (c .before) .within)
 
 text-place-requires : (t : ℕ) → at walk-lts.Need-text-place-requires t
 text-place-requires t c κs =
     let s = start t (c .before .before .before .before) in
     let f = step t (c .before .before) in
-    let n = name-short (s .args .packet .now) (s .args .key .now) (s .args .goal) maxNameBytes (within t s .packet-short) (within t s .key-short) in
+    let n = name-short (s .args .packet .now) (s .args .key .now) (sideOf (s .args .goal)) maxNameBytes (within t s .packet-short) (within t s .key-short) in
     (within t s .packet-short, omega (arith, f .after, f .within))
 
 sub-edges : (t : ℕ) → at walk-lts.Need-sub-edges t
@@ -208,29 +226,30 @@ part-edges-end t c = body t c .within
 loop-holds : (t : ℕ) → at walk-lts.Need-loop-holds t
 loop-holds t c =
     let w = within t (start t (c .before .before .before .before .before .before .before)) in
-    turn-first _ (w .count) (w .only-named) (w .room) (body t (c .before) .edges-are)
+    turn-first _ (w .count) (w .only-named) (w .room) (body-short (w .nodes .short) (body t (c .before))) (body t (c .before) .edges-are)
 
 returns-4 : (t : ℕ) → at walk-lts.Need-returns-4 t
 returns-4 t c =
     let l = c .before .before .before in
     let s = began t l in
-    begun (s .args .model .now) (s .args .named) (s .args .node) (s .args .slots .now) (here t (node t l .before))
-    (turn-none (l .loop .inv) (c .before .before .edge-from .ensures) (c .enum-told3 .given .1))
+    begun (s .args .model .now) (s .args .named) (s .args .node) (s .args .depth) (s .args .slots .now) (s .args .path .now) (s .args .goal)
+    (here t (node t l .before)) (turn-none (l .loop .inv) (c .before .before .edge-from .ensures) (c .enum-told3 .given .1))
+
+add-ordinal : (t : ℕ) → at walk-lts.Need-add-ordinal t
+add-ordinal t c =
+    let p = c .before in
+    let l = p .before .before .before in
+    let low = ordinal-low (l .loop .inv) (p .before .before .edge-from .ensures) (p .pattern .given .1) in
+    omega (arith, low)
 
 sub-cross : (t : ℕ) → at walk-lts.Need-sub-cross t
-sub-cross t c =
-    let read = c .before .before .before in
-    edge-at (read .before .loop .inv) (read .edge-from .ensures) (c .before .pattern .given .1) .order
+sub-cross t c = let p = c .before in edge-at (p .before .before .before .loop .inv) (p .before .before .edge-from .ensures) (p .pattern .given .1) .order
 
 part-cross-start : (t : ℕ) → at walk-lts.Need-part-cross-start t
-part-cross-start t c =
-    let read = c .before .before .before in
-    edge-at (read .before .loop .inv) (read .edge-from .ensures) (c .before .pattern .given .1) .order
+part-cross-start t c = let p = c .before in edge-at (p .before .before .before .loop .inv) (p .before .before .edge-from .ensures) (p .pattern .given .1) .order
 
 part-cross-end : (t : ℕ) → at walk-lts.Need-part-cross-end t
-part-cross-end t c =
-    let read = c .before .before .before in
-    edge-at (read .before .loop .inv) (read .edge-from .ensures) (c .before .pattern .given .1) .within
+part-cross-end t c = let p = c .before in edge-at (p .before .before .before .loop .inv) (p .before .before .edge-from .ensures) (p .pattern .given .1) .within
 
 cross-requires : (t : ℕ) → at walk-lts.Need-cross-requires t
 cross-requires t c κs =
@@ -240,8 +259,8 @@ cross-requires t c κs =
 -- the edge is shut
 loop-less-2 : (t : ℕ) → at walk-lts.Need-loop-less-2 t
 loop-less-2 t c =
-    let x = c .before .before in
-    let e = edge-at (turn t x .loop .inv) (edge t x .before .before .edge-from .ensures) (edge t x .pattern .given .1) in
+    let p = edge t (c .before .before) in
+    let e = edge-at (p .before .before .before .loop .inv) (p .before .before .edge-from .ensures) (p .pattern .given .1) in
     omega (arith, e .moved, e .after)
 
 loop-again-2 : (t : ℕ) → at walk-lts.Need-loop-again-2 t
@@ -250,9 +269,12 @@ loop-again-2 t c =
     turn-shut (turn t x .loop .inv) (edge t x .before .before .edge-from .ensures) (edge t x .pattern .given .1) (x .cross .ensures) (c .enum-told6 .given .1)
 
 -- it leads on
+add-walk : (t : ℕ) → at walk-lts.Need-add-walk t
+add-walk t c = let s = began t (turn t (c .before .before .before)) in omega (arith, few t s)
+
 walk-requires-2 : (t : ℕ) → at walk-lts.Need-walk-requires-2 t
 walk-requires-2 t c κs =
-    let x = c .before .before .before .before in
+    let x = c .before .before .before .before .before in
     let l = turn t x in
     let s = began t l in
     let w = within t s in
@@ -267,41 +289,63 @@ walk-requires-2 t c κs =
           room = x .cross .ensures .room;
           only-named = crossed-named _ (turn-named (l .loop .inv)) (x .cross .ensures);
         },
-        s .pre .1 .1,
+        (s .pre .1 .1 .0, omega (arith, few t s, f .after, f .within)),
       ),
     )
 
+put-word-requires : (t : ℕ) → at walk-lts.Need-put-word-requires t
+put-word-requires t c κs =
+    let x = c .before .before .before .before .before .before .before .before .before .before .before in
+    let low = ordinal-low (turn t x .loop .inv) (edge t x .before .before .edge-from .ensures) (edge t x .pattern .given .1) in
+    omega (arith, low)
+
+same-length-3 : (t : ℕ) → at walk-lts.Need-same-length-3 t
+same-length-3 t c =
+    let told = c .before .before .before .before in
+    let w = told .before .before .before .before in
+    let opened = w .before .before .before .before in
+    let x = opened .before .before in
+    length-first (turn-found (turn t x .loop .inv) (edge t x .before .before .edge-from .ensures) (edge t x .pattern .given .1) (x .cross .ensures)
+    (opened .crossing .given .1) (w .walk2 .ensures) (told .enum-told4 .given .1) (c .before .before .put-word .ensures))
+
 returns-5 : (t : ℕ) → at walk-lts.Need-returns-5 t
 returns-5 t c =
-    let x = c .before .before .before .before .before .before .before in
+    let told = c .before .before .before .before in
+    let w = told .before .before .before .before in
+    let opened = w .before .before .before .before in
+    let x = opened .before .before in
     let l = turn t x in
     let s = began t l in
-    begun (s .args .model .now) (s .args .named) (s .args .node) (s .args .slots .now) (here t (node t l .before))
+    begun (s .args .model .now) (s .args .named) (s .args .node) (s .args .depth) (s .args .slots .now) (s .args .path .now) (s .args .goal)
+    (here t (node t l .before))
     (turn-found (l .loop .inv) (edge t x .before .before .edge-from .ensures) (edge t x .pattern .given .1) (x .cross .ensures)
-    (c .before .before .before .before .before .crossing .given .1) (c .before .before .walk2 .ensures) (c .enum-told4 .given .1))
+    (opened .crossing .given .1) (w .walk2 .ensures) (told .enum-told4 .given .1) (c .before .before .put-word .ensures))
 
 unbind-tag-requires : (t : ℕ) → at walk-lts.Need-unbind-tag-requires t
 unbind-tag-requires t c κs =
-    let x = c .before .before .before .before .before .before .before .before in
-    rw (c .before .before .before .before .before .before .crossing .given .1) at (x .cross .ensures .low)
+    let opened = c .before .before .before .before .before .before .before .before .before in
+    rw (opened .crossing .given .1) at (opened .before .before .cross .ensures .low)
 
 loop-less : (t : ℕ) → at walk-lts.Need-loop-less t
 loop-less t c =
-    let x = c .before .before .before .before .before .before .before .before .before in
-    let e = edge-at (turn t x .loop .inv) (edge t x .before .before .edge-from .ensures) (edge t x .pattern .given .1) in
+    let x = c .before .before .before .before .before .before .before .before .before .before .before .before in
+    let p = edge t x in
+    let e = edge-at (p .before .before .before .loop .inv) (p .before .before .edge-from .ensures) (p .pattern .given .1) in
     omega (arith, e .moved, e .after)
 
 loop-again : (t : ℕ) → at walk-lts.Need-loop-again t
 loop-again t c =
-    let x = c .before .before .before .before .before .before .before .before .before in
+    let w = c .before .before .before .before .before .before in
+    let opened = w .before .before .before .before in
+    let x = opened .before .before in
     turn-back (turn t x .loop .inv) (edge t x .before .before .edge-from .ensures) (edge t x .pattern .given .1) (x .cross .ensures)
-    (c .before .before .before .before .before .before .before .crossing .given .1) (c .before .before .before .before .walk2 .ensures)
-    (c .before .before .enum-told5 .given .1) (c .unbind-tag .ensures)
+    (opened .crossing .given .1) (w .walk2 .ensures) (c .before .before .enum-told5 .given .1) (c .unbind-tag .ensures)
 
 pub +walk-spec : {M : Type 1} → statement M
 +walk-spec =
     close μ-walk λ t.
     walk-lts.spec (calls t) (walk-at t) walk.Post Inv μ
+    (λ c κs. search needs)
     (λ c κs. search needs)
     (λ c κs. search needs)
     (λ c. search needs)
@@ -312,6 +356,7 @@ pub +walk-spec : {M : Type 1} → statement M
     (λ c. search needs)
     (if-listed-requires t)
     (returns t)
+    (λ c. search needs)
     (returns-2 t)
     (returns-3 t)
     (sub-c t)
@@ -326,14 +371,19 @@ pub +walk-spec : {M : Type 1} → statement M
     (λ c κs. search needs)
     (λ c. search needs)
     (λ c. search needs)
+    (λ c. search needs)
     (returns-4 t)
+    (add-ordinal t)
     (sub-cross t)
     (part-cross-start t)
     (part-cross-end t)
     (cross-requires t)
     (λ c. search needs)
+    (add-walk t)
     (walk-requires-2 t)
     (λ c. search needs)
+    (put-word-requires t)
+    (same-length-3 t)
     (returns-5 t)
     (λ c. search needs)
     (unbind-tag-requires t)
