@@ -6,15 +6,20 @@ use mathlib.Core.List.{List}
 use mathlib.Core.Option.{none}
 use lib.ListN.{length, take, drop}
 use Rattle.tlv.specs.Bytes.{Bytes}
+use Rattle.tlv.specs.Lists.{first}
 use Rattle.tlv.specs.declared.Place.{Place}
 use Rattle.tlv.proofs.Cuts.{Step}
 use Rattle.lvs_spec.specs.Limits.{maxNameBytes}
 use Rattle.lvs_spec.specs.Model.{Model}
 use Rattle.lvs_spec.specs.Names.{Component, NameReading, badName, goodName, nameReading, packetName, keyName}
-use Rattle.lvs_spec.specs.Certificates.{entries, isBad, unfit, fitEntries, listReading, isAllowed, allows}
+use Rattle.lvs_spec.specs.Walk.{pairs}
+use Rattle.lvs_spec.specs.Answers.{SignOutcome}
+use Rattle.lvs_spec.specs.Certificates.{entries, isBad, unfit, fitEntries, listReading, isAllowed, roomy, allows}
 use Rattle.lvs_spec.proofs.Lists.{clash}
 use Rattle.lvs_spec.proofs.Names.{good-short}
+use Rattle.lvs_spec.proofs.Inputs.{roomy-enough}
 use Rattle.lvs_spec.proofs.Signing.{signs-first}
+use Rattle.lvs_spec.proofs.Buffer.{pair-answer}
 use Rattle.lvs_spec.proofs.Certificates.{reading-fit}
 use Rattle.lvs_names.specs.Rows.{rowFrom}
 use Rattle.lvs_names.specs.Answers.{nameRead}
@@ -53,7 +58,7 @@ module _ {list : List ℕ} {at t start stop : ℕ} {p : Place} (bytes : Bytes li
   pub unfit-refused : {r : NameRead} {x : ℕ} → nameRead key r ≡ nameReading 24 key → r ≡ Refused x → unfit (entry list at t start stop) ≡ true
   unfit-refused {r} e told = unfit-is r e ∙ ap (λ (q : NameRead). isBad (nameRead key q)) told
 
-  pub fit-good : {r : NameRead} {x : ℕ} → nameRead key r ≡ nameReading 24 key → r ≡ Good x → unfit (entry list at t start stop) ≡ false
+  pub fit-good : {r : NameRead} {x n : ℕ} → nameRead key r ≡ nameReading 24 key → r ≡ Good x n → unfit (entry list at t start stop) ≡ false
   fit-good {r} e told = unfit-is r e ∙ ap (λ (q : NameRead). isBad (nameRead key q)) told
 
   -- an entry of a list without an unfit one is a good key name, whose components start behind its header
@@ -78,11 +83,15 @@ module _ {list : List ℕ} {at t start stop : ℕ} {p : Place} (bytes : Bytes li
       go false e = good-key e
 
   -- it may sign where the search found a pair
-  module _ (packet : List ℕ) {m : Model} {ps : List Component} {r : Found} (good : goodName ps ≡ packetName packet) (k : GoodKey)
-      (found : FirstPair m ps (rowFrom key (start - at)) r) where
+  module _ (packet : List ℕ) {m : Model} {ps : List Component} {r : Found} {path after : List ℕ}
+      (good : goodName ps ≡ packetName packet) (k : GoodKey) (found : FirstPair m ps (rowFrom key (start - at)) path r after) where
     allows-is : allows m packet (entry list at t start stop) ≡ isAllowed (signFound r)
     unfolding allows
-    allows-is = rw (← (cut-is bytes st)) (ap isAllowed (signs-first m packet key (sym good) (k .row) ∙ sym (found .answer)))
+    allows-is =
+        let room = roomy-enough packet key .enough ps (rowFrom key (start - at)) (sym good) (k .row) in
+        let same = pair-answer (first (pairs m ps (rowFrom key (start - at)))) roomy (record { path = path }) in
+        rw (← (cut-is bytes st))
+        (ap isAllowed (ap (λ (o : SignOutcome). o .answer) (signs-first m packet key roomy (sym good) (k .row) room) ∙ same ∙ sym (found .answer)))
 
     pub pair-allows : {v w : ℕ} → r ≡ At v w → allows m packet (entry list at t start stop) ≡ true
     pair-allows e = allows-is ∙ ap (λ (q : Found). isAllowed (signFound q)) e

@@ -14,8 +14,8 @@ ghost use Rattle.lvs_names.specs.Rows.{rowFrom};
 ghost use Rattle.lvs_edges.specs.Nodes.{NodesAt};
 ghost use Rattle.lvs_certificates.specs.Answers.{indexOf, listRead};
 use lvs_edges::nodes::PLACE_WORDS;
-use lvs_names::KEY_REFUSALS;
 use lvs_names::NameRead;
+use lvs_names::Side;
 use lvs_spec::MAX_CERTIFICATES;
 use lvs_walk::Found;
 use tlv::Place;
@@ -91,7 +91,7 @@ fn first_unfit(list: &[u8]) -> Index
                 end,
                 next,
             } => {
-                if let NameRead::Refused(_) = lvs_names::read_name(&list[at..end], KEY_REFUSALS) {
+                if let NameRead::Refused(_) = lvs_names::read_name(&list[at..end], Side::Key) {
                     return Index::At(n);
                 }
                 place = next;
@@ -132,7 +132,16 @@ pub fn first_allowed<'a>(
                 next,
             } => {
                 let key = &list[at..end];
-                let pair = lvs_walk::find_pair(model, places, packet, from, key, start - at);
+                let mut path = [0u16; 1]; // of which none is lent
+                let pair = lvs_walk::find_pair(
+                    model,
+                    places,
+                    packet,
+                    from,
+                    key,
+                    start - at,
+                    &mut path[..0],
+                );
                 if let Found::At(_, _) = pair {
                     return Index::At(index);
                 }

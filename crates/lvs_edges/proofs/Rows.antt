@@ -16,8 +16,8 @@ use Rattle.lvs_names.specs.declared.ComponentRead.the-variants.{Component as AC
 use Rattle.lvs_bindings.specs.Slots.{textFrom, placeIn, bindingAt}
 use Rattle.lvs_edges.specs.Crossing.{Stands}
 use Rattle.lvs_edges.specs.Sides.{nameFor, rowFor, textPlace}
-use Rattle.lvs_edges.specs.declared.sides.Side.{Side}
-use Rattle.lvs_edges.specs.declared.sides.Side.the-variants.{Packet, Key}
+use Rattle.lvs_names.specs.declared.Side.{Side}
+use Rattle.lvs_names.specs.declared.Side.the-variants.{Packet, Key}
 
 module _ (packet key : List ℕ) (side : Side) where
   pub name-short : (n : ℕ) → length packet ≤ n → length key ≤ n → length (nameFor packet key side) ≤ n

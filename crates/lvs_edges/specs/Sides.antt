@@ -4,8 +4,8 @@ use mathlib.Core.List.{List}
 use lib.ListN.{length}
 use Rattle.lvs_spec.specs.Walk.{Binding, packetRow, keyRow}
 use Rattle.lvs_names.specs.Rows.{rowFrom}
-use Rattle.lvs_edges.specs.declared.sides.Side.{Side}
-use Rattle.lvs_edges.specs.declared.sides.Side.the-variants.{Packet, Key}
+use Rattle.lvs_names.specs.declared.Side.{Side}
+use Rattle.lvs_names.specs.declared.Side.the-variants.{Packet, Key}
 
 unfoldable pub nameFor : List ℕ → List ℕ → Side → List ℕ
 nameFor packet key Packet = packet

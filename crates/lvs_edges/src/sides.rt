@@ -4,12 +4,7 @@ ghost use Prim.Native.Nat.{_≤_};
 ghost use lib.ListN.{length};
 ghost use Rattle.lvs_spec.specs.Limits.{maxNameBytes};
 ghost use Rattle.lvs_edges.specs.Sides.{nameFor, textPlace};
-
-// Which of the two names.
-pub enum Side {
-    Packet,
-    Key,
-}
+use lvs_names::Side;
 
 pub fn name_for<'a>(packet: &'a [u8], key: &'a [u8], side: Side) -> &'a [u8]
     ensures { λ r. ⌜ now r ≡ nameFor (now (packet .entry)) (now (key .entry)) side ⌝ }

@@ -265,6 +265,19 @@ module _ (b : List ℕ) where
                 counted-is (some cs) p .1 ∙
                 rw (le-ltb maxComponents (length cs) (omega arith)) (ap goodName (sym (row-same (headerOf b) (cuts (drop (headerOf b) b)) cs p)))
 
+        -- and that is how many there are
+        pub good-count : (n : ℕ) → r ≡ Components n → length (rowFrom b (headerOf b)) ≡ n
+        unfolding countedFrom rowFrom
+        good-count n e = go (componentsAt (headerOf b) (cuts (drop (headerOf b) b))) refl
+          where
+            go : (o : Option (List Component)) → componentsAt (headerOf b) (cuts (drop (headerOf b) b)) ≡ o
+                → length (rowAt (headerOf b) (cuts (drop (headerOf b) b))) ≡ n
+            go none p = let x = counted-is none p .0 in let z : _≡_ {A = ℕ} 0 1 = cc in absurd (omega arith)
+            go (some cs) p =
+                let x = counted-is (some cs) p .0 in
+                let y : n ≡ 0 + length cs = cc in
+                ap length (row-same (headerOf b) (cuts (drop (headerOf b) b)) cs p) ∙ omega (arith, y)
+
   -- a good name's components start behind its header
   pub good-row : (base : ℕ) {cs : List Component} {h : ℕ} {e : Element} → nameReading base b ≡ goodName cs → element b ≡ first h e []
       → goodName (rowFrom b h) ≡ nameReading base b

@@ -1,30 +1,28 @@
 // Names and their components (docs/format.md, 6), read at their places and never copied.
 //
-// A layer below the public calls: any bytes may be a name. `requires` asks that refusal numbers are ones of the format, and for a component
-// that is cut out.
+// A layer below the public calls: any bytes may be a name. `requires` asks for a component that is cut out.
 ghost use mathlib.Core.Path.{_≡_};
-ghost use Prim.Native.Nat.{_+_, _≤_};
 ghost use lib.Dec.{eqb};
 ghost use lib.ListN.{length, take};
 ghost use Rattle.tlv.specs.Bytes.{sameBytes};
 ghost use Rattle.lvs_spec.specs.Model.{componentOf};
-ghost use Rattle.lvs_spec.specs.Names.{nameReading};
-ghost use Rattle.lvs_names.specs.Answers.{nameRead, headerOf, countOf};
+ghost use Rattle.lvs_names.specs.Answers.{firstRefusal, NameOf, headerOf, countOf};
 ghost use Rattle.lvs_names.specs.Contents.{ContentOf, Alone, ComponentAt};
 ghost use Rattle.lvs_names.specs.Comparing.{ComparedOf, Headed, LastDifference};
 use tlv::Place;
 use tlv::Read;
 
-// The first refusals of a packet name and of a key name.
-pub const PACKET_REFUSALS: u32 = 21;
-
-pub const KEY_REFUSALS: u32 = 24;
-
 const NAME: u32 = 7;
 
+// Which of the two names that a walk takes.
+pub enum Side {
+    Packet,
+    Key,
+}
+
 pub enum NameRead {
-    // The place of the first component.
-    Good(usize),
+    // The place of the first component, and how many there are.
+    Good(usize, usize),
     // A refusal number.
     Refused(u32),
 }
@@ -53,12 +51,20 @@ pub struct Compared {
     pub looked: usize,
 }
 
-// A name; `first` is its refusal for a name that is too long, and the next two are those for a malformed one and for too many components.
-// A layer below: any bytes may be the name; `requires` is about `first`, which is one of the constants above.
-pub fn read_name(name: &[u8], first: u32) -> NameRead
-    requires { ⌜ first ≤ 24 ⌝ }
-    ensures { λ r. ⌜ nameRead (now (name .entry)) r ≡ nameReading first (now (name .entry)) ⌝ }
+// The refusal for a name that is too long; the next two are those for a malformed one and for too many components.
+fn first_refusal(side: Side) -> u32
+    ensures { λ r. ⌜ r ≡ firstRefusal side ⌝ }
 {
+    match side {
+        Side::Packet => 21,
+        Side::Key => 24,
+    }
+}
+
+pub fn read_name(name: &[u8], side: Side) -> NameRead
+    ensures { λ r. ⌜ NameOf side (now (name .entry)) r ⌝ }
+{
+    let first = first_refusal(side);
     if lvs_spec::MAX_NAME_BYTES < name.len() {
         return NameRead::Refused(first);
     }
@@ -72,7 +78,7 @@ pub fn read_name(name: &[u8], first: u32) -> NameRead
     if lvs_spec::MAX_COMPONENTS < n {
         return NameRead::Refused(first + 2);
     }
-    NameRead::Good(start)
+    NameRead::Good(start, n)
 }
 
 // Where the components of a name start, or 0 where the slice is not one element of type 7.

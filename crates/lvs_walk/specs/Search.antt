@@ -15,8 +15,8 @@ use Rattle.lvs_names.specs.Rows.{rowFrom}
 use Rattle.lvs_bindings.specs.Slots.{Room, bindingsOf}
 use Rattle.lvs_edges.specs.Nodes.{NodesAt}
 use Rattle.lvs_edges.specs.Sides.{nameFor}
-use Rattle.lvs_edges.specs.declared.sides.Side.{Side}
-use Rattle.lvs_edges.specs.declared.sides.Side.the-variants as side
+use Rattle.lvs_names.specs.declared.Side.{Side}
+use Rattle.lvs_names.specs.declared.Side.the-variants as side
 use Rattle.lvs_walk.specs.declared.Goal.{Goal}
 use Rattle.lvs_walk.specs.declared.Goal.the-variants.{Match as AnyMatch, Packet, Key}
 use Rattle.lvs_walk.specs.declared.Found.{Found}

@@ -38,7 +38,7 @@ good : (c : tie.After-start Inv μ) → GoodKey (bytes c) (step c)
 good c = all-fit (bytes c) (step c) (began c .pre .1 .1) (turn c .loop .inv .1)
 
 abbrev entry : tie.After-find-pair Inv μ → tie.After-start Inv μ
-entry c = c .before .before .before
+entry c = c .before .before .before .before
 
 loop-holds : tie.Need-loop-holds Inv μ
 loop-holds c = (sought-start, sought-start)
@@ -57,13 +57,13 @@ sub-find-pair c = let st = step (c .before .before) in omega (arith, st .before)
 
 find-pair-requires : tie.Need-find-pair-requires Inv μ
 find-pair-requires c κs =
-    let e = c .before .before in
+    let e = c .before .before .before in
     let s = began e in
     (s .pre .0, (packet-short (s .args .packet .now) (s .pre .1 .0), good e .short))
 
 returns : tie.Need-returns Inv μ
 returns c =
-    let r = c .before .before in
+    let r = c .before .before .before in
     let e = entry r in
     let packet = began e .args .packet .now in
     let may = pair-allows (bytes e) (step e) packet (began e .pre .1 .0) (good e) (r .find-pair .ensures) (c .enum-told .given .1) in
@@ -71,16 +71,16 @@ returns c =
 
 add-index : tie.Need-add-index Inv μ
 add-index c =
-    let e = entry (c .before .before) in
+    let e = entry (c .before .before .before) in
     let st = step e in
     omega (arith, turn e .loop .inv .0 .few, st .before, st .order, st .within)
 
 loop-less : tie.Need-loop-less Inv μ
-loop-less c = let st = step (entry (c .before .before)) in omega arith
+loop-less c = let st = step (entry (c .before .before .before)) in omega arith
 
 loop-again : tie.Need-loop-again Inv μ
 loop-again c =
-    let r = c .before .before in
+    let r = c .before .before .before in
     let e = entry r in
     let packet = began e .args .packet .now in
     let may-not = no-pair-allows (bytes e) (step e) packet (began e .pre .1 .0) (good e) (r .find-pair .ensures) (c .enum-told2 .given .1) in
@@ -107,6 +107,8 @@ first-allowed-spec =
     part-key-start
     part-key-end
     sub-find-pair
+    (λ c. search needs)
+    (λ c. search needs)
     find-pair-requires
     (λ c. search needs)
     returns

@@ -46,7 +46,7 @@ returns : tie.Need-returns Inv μ
 returns c =
     let r = c .before .before in
     let e = entry r in
-    sought-here (turn e .loop .inv) (step e) (unfit-refused (bytes (turn e)) (step e) (r .read-name .ensures) (c .enum-told .given .1))
+    sought-here (turn e .loop .inv) (step e) (unfit-refused (bytes (turn e)) (step e) (r .read-name .ensures .is) (c .enum-told .given .1))
 
 add-n : tie.Need-add-n Inv μ
 add-n c =
@@ -61,7 +61,7 @@ loop-again : tie.Need-loop-again Inv μ
 loop-again c =
     let r = c .before .before in
     let e = entry r in
-    sought-next (turn e .loop .inv) (step e) (fit-good (bytes (turn e)) (step e) (r .read-name .ensures) (c .enum-told2 .given .1))
+    sought-next (turn e .loop .inv) (step e) (fit-good (bytes (turn e)) (step e) (r .read-name .ensures .is) (c .enum-told2 .given .1))
 
 returns-2 : tie.Need-returns-2 Inv μ
 returns-2 c = sought-end (c .before .before .before .loop .inv) (seen _ _ (c .before .before .element .ensures) (c .enum-told3 .given .1))
