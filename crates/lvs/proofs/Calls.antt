@@ -29,26 +29,6 @@ use Rattle.lvs_spec.proofs.Certificates.{reading-fit}
 use Rattle.lvs_edges.specs.Nodes.{Walkable}
 use Rattle.lvs_edges.proofs.Ordered.{well-ordered}
 
--- ---- the verdict
-
-pub verdict-unreadable : (b : List ℕ) {r i : ℕ} → reading b ≡ unreadable r i → verdict b ≡ Verdict.refused r i
-unfolding verdict
-verdict-unreadable b e = rw (e, verdict)
-
-pub verdict-judged : (b : List ℕ) {m : Model} {v : Verdict} → reading b ≡ describes m → v ≡ judge m → v ≡ verdict b
-unfolding verdict
-verdict-judged b e f = f ∙ sym (rw (e, verdict))
-
-pub walkable : (b : List ℕ) {n : ℕ} → verdict b ≡ Verdict.accepted n → Walkable b
-unfolding modelOf
-walkable b h =
-    let p = accepted-passed b h in
-    record {
-      short = p .short;
-      few = omega (arith, judge-few (modelOf b) (accepted-judged b h), length-map (insides type.Node b) nodeOf);
-      ordered = well-ordered b (p .formed);
-    }
-
 -- ---- the match call
 
 module _ (b name buffer : List ℕ) where

@@ -10,9 +10,9 @@ use lib.Dec.{leb}
 use lib.ListN.{length, getD, set, take, drop, length-drop, length-set, drop-of-length-le, List·getD-eq-default}
 use lib.Seq.{take-all, set-out, set-set, set-getD}
 use Rattle.lvs_spec.specs.Limits.{maxTag}
-use Rattle.lvs_spec.specs.Walk.{Bindings, bound, bindTag}
+use Rattle.lvs_spec.specs.Walk.{Bindings, noBindings, bound, bindTag}
 use Rattle.lvs_spec.proofs.Buffer.{twice, twice-one}
-use Rattle.lvs_bindings.specs.Slots.{Room, SlotOf, textFrom, bindingAt, binding, bindingsOf}
+use Rattle.lvs_bindings.specs.Slots.{clear, Room, SlotOf, textFrom, bindingAt, binding, bindingsOf}
 use Rattle.lvs_bindings.specs.Slots.{hasWords, slotAt, boundWords, boundTag, clearedWords, without}
 use Rattle.lvs_bindings.specs.declared.Slot.{Slot}
 
@@ -231,3 +231,8 @@ module _ (packet key : List ℕ) where
   unfolding clearedWords without
   cleared-bindings zero words = refl
   cleared-bindings (suc i) words = clear-at i words
+
+-- where nothing is bound
+pub none-bound : (packet key : List ℕ) {slots : List ℕ} → slots ≡ clear → bindingsOf packet key slots ≡ noBindings
+unfolding bindingsOf binding noBindings
+none-bound packet key e = rw e

@@ -6,7 +6,7 @@ use mathlib.Core.Bool.{Bool, cond, _&&_}
 use mathlib.Core.List.{List, [], _∷_}
 use mathlib.Core.Option.{Option, none, some}
 use lib.Dec.{eqb, leb, ltb}
-use lib.ListN.{length, drop, getD, set}
+use lib.ListN.{length, drop, getD, set, replicate}
 use Rattle.lvs_spec.specs.Limits.{maxTag}
 use Rattle.lvs_spec.specs.Model.{componentOf}
 use Rattle.lvs_spec.specs.Walk.{Binding, Bindings}
@@ -15,6 +15,10 @@ use Rattle.lvs_bindings.specs.declared.Slot.{Slot}
 -- the number of words, derived from that of Tags
 abbrev pub slotWords : ℕ
 slotWords = maxTag * 2
+
+-- no Tag is bound
+abbrev pub clear : List ℕ
+clear = replicate slotWords 0
 
 pub record Room (words : List ℕ) : Type 0 where
   pub is : length words ≡ slotWords

@@ -23,6 +23,7 @@ use Rattle.lvs_spec.proofs.Buffer.{pair-answer}
 use Rattle.lvs_spec.proofs.Certificates.{reading-fit}
 use Rattle.lvs_names.specs.Rows.{rowFrom}
 use Rattle.lvs_names.specs.Answers.{nameRead}
+use Rattle.lvs_names.specs.declared.Row.{Row}
 use Rattle.lvs_names.specs.declared.NameRead.{NameRead}
 use Rattle.lvs_names.specs.declared.NameRead.the-variants.{Good, Refused}
 use Rattle.lvs_names.proofs.Alone.{cut-is, cut-element}
@@ -58,7 +59,7 @@ module _ {list : List ℕ} {at t start stop : ℕ} {p : Place} (bytes : Bytes li
   pub unfit-refused : {r : NameRead} {x : ℕ} → nameRead key r ≡ nameReading 24 key → r ≡ Refused x → unfit (entry list at t start stop) ≡ true
   unfit-refused {r} e told = unfit-is r e ∙ ap (λ (q : NameRead). isBad (nameRead key q)) told
 
-  pub fit-good : {r : NameRead} {x n : ℕ} → nameRead key r ≡ nameReading 24 key → r ≡ Good x n → unfit (entry list at t start stop) ≡ false
+  pub fit-good : {r : NameRead} {row : Row} → nameRead key r ≡ nameReading 24 key → r ≡ Good row → unfit (entry list at t start stop) ≡ false
   fit-good {r} e told = unfit-is r e ∙ ap (λ (q : NameRead). isBad (nameRead key q)) told
 
   -- an entry of a list without an unfit one is a good key name, whose components start behind its header

@@ -23,7 +23,7 @@ use Rattle.lvs_bindings.specs.declared.Slot.{Slot}
 use Rattle.lvs_bindings.proofs.Slots.{to-end, unbound, is-bound, bound-most, bound-long, bound-bindings, bound-back}
 use Rattle.lvs_constraints.proofs.Holds.{all-empty}
 use Rattle.lvs_edges.specs.Edges.{edgeOf}
-use Rattle.lvs_edges.specs.Crossing.{Ready, FieldsOf, Reached, leadsTo, reached, openIf, Crossed, CrossedValue}
+use Rattle.lvs_edges.specs.Crossing.{Ready, FieldsOf, Reached, leadsTo, reached, arriving, openIf, Crossed, CrossedValue}
 use Rattle.lvs_edges.specs.declared.PatternFields.{PatternFields}
 use Rattle.lvs_edges.specs.declared.Crossing.{Crossing}
 use Rattle.lvs_edges.specs.declared.Crossing.the-variants.{Shut, Open}
@@ -178,10 +178,6 @@ crossed-named {count} {packet} {key} {before} {after} {e} {b} (Open d t) named c
     let (s, a, k) = bind-from (bindingsAfter count (bindingsOf packet key before) b e) _ (crossed .leads) in
     let same-bindings = ap (λ (x : Reached). x .bindings) (Option·some-injective _ _ k) in
     subst (OnlyNamed count) same-bindings (named-after count (bindingsOf packet key before) b e named a)
-
--- a Node reached by a path
-abbrev pub arriving : List ℕ → Reached → Option Match
-arriving p q = some (record { node = q .node; bindings = q .bindings; path = p })
 
 cross-leads : (m : Model) (b : Binding) (x : Match) (i : ℕ) (e : Edge)
     → cross m b x i e ≡ bind (leadsTo (m .patternCount) (x .bindings) b e) (arriving (x .path ++ (i ∷ [])))

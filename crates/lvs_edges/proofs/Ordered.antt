@@ -9,7 +9,7 @@ use mathlib.Core.Option.{none, some}
 use native.Mathlib.Omega.{arith}
 use borrow.Author.Tests.{eqb-true, eqb-false}
 use lib.Dec.{eqb}
-use lib.ListN.{getD}
+use lib.ListN.{getD, length-map}
 use Rattle.tlv.specs.Element.{Element, done, cuts, nexts}
 use Rattle.tlv.specs.Lists.{any, each, member}
 use Rattle.tlv.specs.Fields.{eachCut, insideOf, insides}
@@ -17,11 +17,14 @@ use Rattle.tlv.proofs.Gathered.{inside-taken, inside-passed}
 use Rattle.lvs_spec.specs.Types as type
 use Rattle.lvs_spec.specs.Grammar.{Kind, Known, Item, once, maybe, many, meaning, order, step, node, model, optional, known, container, knownTypes, lookup}
 use Rattle.lvs_spec.specs.WellFormed.{insideOk, wellFormedBy, wellFormed}
-use Rattle.lvs_spec.specs.Model.{Edge, edges, noNode, nodeOf, valueEdgeOf, patternEdgeOf}
+use Rattle.lvs_spec.specs.Model.{Edge, edges, noNode, nodeOf, modelOf, valueEdgeOf, patternEdgeOf}
+use Rattle.lvs_spec.specs.Verdict.{Verdict, verdict}
 use Rattle.lvs_spec.proofs.Lists.{clash}
+use Rattle.lvs_spec.proofs.Reading.{accepted-passed, accepted-judged}
+use Rattle.lvs_spec.proofs.Rules.{judge-few}
 use Rattle.lvs_spec.proofs.Grammar.{both, eachCut-nexts, Ordered, stop, skip, take, row}
 use Rattle.lvs_edges.specs.Edges.{edgeOf, edgeFrom, fileEdges}
-use Rattle.lvs_edges.specs.Nodes.{nodeInside}
+use Rattle.lvs_edges.specs.Nodes.{nodeInside, Walkable}
 use Rattle.lvs_edges.proofs.Edges.{from-value, from-pattern, from-other, no-edges}
 use Rattle.lvs_edges.proofs.Bodies.{empty-node}
 
@@ -250,3 +253,14 @@ well-ordered b h v =
     let R = row (wellFormedBy 6) model (order model) (cuts b) h in
     rw (insides-row b (R .elements) type.Node (R .cut-is))
     (row-nodes (wellFormedBy 6) model (λ x. fileEdges x ≡ edges (nodeOf x)) empty-edges (node-edges 6) (R .ordered) v)
+
+-- an accepted model can be walked
+pub walkable : (b : List ℕ) {n : ℕ} → verdict b ≡ Verdict.accepted n → Walkable b
+unfolding modelOf
+walkable b h =
+    let p = accepted-passed b h in
+    record {
+      short = p .short;
+      few = omega (arith, judge-few (modelOf b) (accepted-judged b h), length-map (insides type.Node b) nodeOf);
+      ordered = well-ordered b (p .formed);
+    }

@@ -54,7 +54,7 @@ module _ (packet key : List ℕ) (side : Side) where
         go Key h = rw (le-ltb (length packet + at) (length packet) (omega arith)) (omega arith)
 
   -- the row goes on with the component that was found
-  row-found : {at header stop : ℕ} → RowStep (nameFor packet key side) at header stop
+  pub row-found : {at header stop : ℕ} → RowStep (nameFor packet key side) at header stop
       → rowFor packet key side at ≡ bindingAt packet key (textPlace packet side at) (stop - at) ∷ rowFor packet key side stop
   unfolding bindingAt rowFor nameFor packetRow keyRow
   row-found {at} {header} {stop} f =

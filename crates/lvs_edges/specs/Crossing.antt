@@ -10,7 +10,7 @@ use Rattle.tlv.specs.Fields.{insides, theInteger}
 use Rattle.lvs_spec.specs.Limits.{maxTag}
 use Rattle.lvs_spec.specs.Types as type
 use Rattle.lvs_spec.specs.Model.{Edge, componentOf, destination}
-use Rattle.lvs_spec.specs.Walk.{Binding, Bindings, bindingsAfter}
+use Rattle.lvs_spec.specs.Walk.{Binding, Bindings, Match, bindingsAfter}
 use Rattle.lvs_spec.specs.Demands.{OnlyNamed}
 use Rattle.lvs_names.specs.Contents.{Alone}
 use Rattle.lvs_bindings.specs.Slots.{Room, textFrom, bindingsOf, without}
@@ -74,6 +74,10 @@ leadsTo count s b e = bind (bindingsAfter count s b e) λ t. some (record { node
 abbrev pub reached : Crossing → Bindings → Option Reached
 reached Shut s = none
 reached (Open d t) s = some (record { node = d; bindings = s })
+
+-- the match there, with the path that led to it
+abbrev pub arriving : List ℕ → Reached → Option Match
+arriving p q = some (record { node = q .node; bindings = q .bindings; path = p })
 
 -- the Tag that it bound; 0 for none
 abbrev pub newTag : Crossing → ℕ

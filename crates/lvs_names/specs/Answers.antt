@@ -12,6 +12,7 @@ use Rattle.lvs_spec.specs.Names.{Component, NameReading, badName, goodName, com
 use Rattle.lvs_names.specs.Rows.{rowFrom}
 use Rattle.lvs_names.specs.declared.Side.{Side}
 use Rattle.lvs_names.specs.declared.Side.the-variants.{Packet, Key}
+use Rattle.lvs_names.specs.declared.Row.{Row}
 use Rattle.lvs_names.specs.declared.NameRead.{NameRead}
 use Rattle.lvs_names.specs.declared.NameRead.the-variants.{Good, Refused}
 use Rattle.lvs_names.specs.declared.Counted.{Counted}
@@ -24,12 +25,12 @@ firstRefusal Key = 24
 
 -- a good name's components start at a place; a refused one has its refusal number
 abbrev pub nameRead : List ℕ → NameRead → NameReading
-nameRead name (Good start n) = goodName (rowFrom name start)
+nameRead name (Good row) = goodName (rowFrom name (row .start))
 nameRead name (Refused r) = badName r
 
 -- and there are so many
 abbrev pub Counts : List ℕ → NameRead → Type 0
-Counts name (Good start n) = length (rowFrom name start) ≡ n
+Counts name (Good row) = length (rowFrom name (row .start)) ≡ row .count
 Counts name (Refused r) = Unit {0}
 
 pub record NameOf (side : Side) (name : List ℕ) (r : NameRead) : Type 0 where

@@ -20,9 +20,14 @@ pub enum Side {
     Key,
 }
 
+// The components of a name: where the first starts, and how many there are.
+pub struct Row {
+    pub start: usize,
+    pub count: usize,
+}
+
 pub enum NameRead {
-    // The place of the first component, and how many there are.
-    Good(usize, usize),
+    Good(Row),
     // A refusal number.
     Refused(u32),
 }
@@ -78,7 +83,7 @@ pub fn read_name(name: &[u8], side: Side) -> NameRead
     if lvs_spec::MAX_COMPONENTS < n {
         return NameRead::Refused(first + 2);
     }
-    NameRead::Good(start, n)
+    NameRead::Good(Row { start, count: n })
 }
 
 // Where the components of a name start, or 0 where the slice is not one element of type 7.

@@ -3,7 +3,7 @@
 use Prim.Native.Nat.{ℕ, suc, _+_}
 use mathlib.Core.Path.{_≡_, refl, sym, ap, _∙_, subst}
 use mathlib.Core.List.{List, [], _∷_, _++_, append-assoc, append-nil, List·Memᴰ, List·Memᴰ·head, List·Memᴰ·eq-of-singleton}
-use mathlib.Core.Option.{some, Option·none-ne-some, Option·some-injective}
+use mathlib.Core.Option.{Option, none, some, Option·none-ne-some, Option·some-injective}
 use native.Mathlib.Omega.{arith}
 use lib.ListN.{length, length-append, length-map, getElem?, take, drop, take-append-drop}
 use lib.Seq.{take-at, drop-at}
@@ -140,3 +140,13 @@ module _ (m : Model) (packet key : List Component) where
           key-way = rw (drop-at (x .path) (y .path) (length packet) packet-length) key-own;
           listed = a .listed;
         }
+
+  -- a path of another length leads nowhere
+  pub other-length : (p : List ℕ) → (length p ≡ length packet + length key → ⊥) → followPair m packet key p ≡ none
+  other-length p h = go (followPair m packet key p) refl
+    where
+      go : (o : Option Pair) → followPair m packet key p ≡ o → followPair m packet key p ≡ none
+      go none e = e
+      go (some z) e =
+          let f = pair-followed p e in
+          absurd (h (ap length (followed-path f) ∙ allowed-length (followed-allowed f)))

@@ -18,20 +18,17 @@ use Rattle.lvs_spec.proofs.Follow.{allowed-length}
 use Rattle.lvs_spec.proofs.Signing.{pair-allowed}
 use Rattle.lvs_spec.proofs.Temporary.{none-named}
 use Rattle.lvs_names.specs.Rows.{rowFrom}
-use Rattle.lvs_bindings.specs.Slots.{binding, bindingsOf}
+use Rattle.lvs_bindings.specs.Slots.{clear, bindingsOf}
+use Rattle.lvs_bindings.proofs.Slots.{none-bound}
 use Rattle.lvs_edges.specs.Nodes.{NodesAt}
 use Rattle.lvs_edges.specs.Sides.{rowFor}
 use Rattle.lvs_walk.specs.Search.{Hit, listed, worth, hits, firstFound, sideOf, Within, written, hitOf, First}
-use Rattle.lvs_walk.specs.Calls.{clear, matchOf, FirstMatch, signFound, FirstPair}
+use Rattle.lvs_walk.specs.Calls.{matchOf, FirstMatch, signFound, FirstPair}
 use Rattle.lvs_walk.specs.declared.Goal.the-variants.{Match as AnyMatch, Packet}
 use Rattle.lvs_walk.specs.declared.Found.{Found}
 use Rattle.lvs_walk.specs.declared.Found.the-variants.{Nothing, At}
 use Rattle.lvs_walk.proofs.Retold.{mapped, retold, retold-first, retold-each}
 use Rattle.lvs_walk.proofs.Words.{written-whole}
-
-none-bound : (packet key : List ℕ) {slots : List ℕ} → slots ≡ clear → bindingsOf packet key slots ≡ noBindings
-unfolding bindingsOf binding noBindings
-none-bound packet key e = rw e
 
 -- a walk may begin there
 pub clear-within : {model places : List ℕ} {named : ℕ} {packet key slots : List ℕ} → NodesAt model places → named ≡ modelOf model .patternCount

@@ -14,13 +14,13 @@ use Rattle.lvs_spec.proofs.Lists.{clash}
 use Rattle.lvs_bindings.specs.Slots.{Room, bindingAt, bindingsOf, clearedWords, without}
 use Rattle.lvs_bindings.proofs.Slots.{cleared-long, cleared-bindings}
 use Rattle.lvs_edges.specs.Edges.{edgeOf, fileEdges, EdgeAt, EdgeFrom}
-use Rattle.lvs_edges.specs.Crossing.{reached, Crossed}
+use Rattle.lvs_edges.specs.Crossing.{reached, arriving, Crossed}
 use Rattle.lvs_edges.specs.Sides.{rowFor}
 use Rattle.lvs_edges.specs.declared.EdgeRead.{EdgeRead}
 use Rattle.lvs_edges.specs.declared.EdgeRead.the-variants.{Edge as AnEdge, End}
 use Rattle.lvs_edges.specs.declared.Crossing.{Crossing}
 use Rattle.lvs_edges.specs.declared.Crossing.the-variants.{Shut, Open}
-use Rattle.lvs_edges.proofs.Crossed.{arriving, crossed-step}
+use Rattle.lvs_edges.proofs.Crossed.{crossed-step}
 use Rattle.lvs_edges.proofs.Rows.{Component}
 use Rattle.lvs_walk.specs.Search.{Hit, hits, firstFound, sideOf, written, hitOf, First}
 use Rattle.lvs_walk.specs.declared.Goal.{Goal}

@@ -3,19 +3,15 @@ use Prim.Native.Nat.{ℕ, _+_, _≤_}
 use mathlib.Core.Path.{_≡_}
 use mathlib.Core.List.{List, []}
 use mathlib.Core.Option.{Option, none, some}
-use lib.ListN.{length, replicate}
+use lib.ListN.{length}
 use Rattle.tlv.specs.Lists.{first}
 use Rattle.lvs_spec.specs.Model.{Model}
 use Rattle.lvs_spec.specs.Names.{Component}
 use Rattle.lvs_spec.specs.Walk.{Match, packetMatches, pairs}
 use Rattle.lvs_spec.specs.Answers.{SignAnswer, SignOutcome, pairFound}
-use Rattle.lvs_bindings.specs.Slots.{slotWords, Room, bindingsOf}
+use Rattle.lvs_bindings.specs.Slots.{Room, bindingsOf}
 use Rattle.lvs_walk.specs.declared.Found.{Found}
 use Rattle.lvs_walk.specs.declared.Found.the-variants.{Nothing, At}
-
--- no Tag is bound
-abbrev pub clear : List ℕ
-clear = replicate slotWords 0
 
 -- the match that an answer with these slots stands for, with the edges that it crossed
 abbrev pub matchOf : List ℕ → Found → List ℕ → List ℕ → Option Match

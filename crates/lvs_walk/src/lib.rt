@@ -22,11 +22,11 @@ ghost use Rattle.lvs_spec.specs.Limits.{maxNameBytes};
 ghost use Rattle.lvs_spec.specs.Model.{modelOf};
 ghost use Rattle.lvs_spec.specs.Walk.{lists};
 ghost use Rattle.lvs_names.specs.Rows.{rowFrom};
-ghost use Rattle.lvs_bindings.specs.Slots.{bindingsOf};
+ghost use Rattle.lvs_bindings.specs.Slots.{clear, bindingsOf};
 ghost use Rattle.lvs_edges.specs.Nodes.{NodesAt};
 ghost use Rattle.lvs_edges.specs.Sides.{rowFor};
 ghost use Rattle.lvs_walk.specs.Search.{hits, sideOf, foundIf, Within, Started, bytesLeft, First};
-ghost use Rattle.lvs_walk.specs.Calls.{clear, FirstMatch, FirstPair};
+ghost use Rattle.lvs_walk.specs.Calls.{FirstMatch, FirstPair};
 
 // What is looked for: any match; a packet match with a key match after it, which starts at a node and at a place of the key's name; a key
 // match for the packet's node.

@@ -1,11 +1,11 @@
--- `lvs::judge_model` meets its contract. Assumes nothing.
+-- `lvs_verdict::judge_model` meets its contract. Assumes nothing.
 use borrow.Author.Needs.{needs}
 use mathlib.Core.Path.{sym, ap, _∙_}
 use Rattle.lvs_grammar.proofs.Answers.{reading-is}
 use Rattle.lvs_rules.specs.Faults.{judgedOf}
-use Rattle.lvs.proofs.Calls.{verdict-unreadable, verdict-judged}
-use Rattle.lvs.proofs.judge_model.Statement.{statement}
-use Rattle.lvs.proofs.judge_model.Tie as tie
+use Rattle.lvs_verdict.proofs.Calls.{verdict-unreadable, verdict-judged}
+use Rattle.lvs_verdict.proofs.judge_model.Statement.{statement}
+use Rattle.lvs_verdict.proofs.judge_model.Tie as tie
 
 -- where the model was read, and where the call began
 abbrev start : tie.After-check-grammar → tie.Start
