@@ -1,33 +1,33 @@
 -- What the calls' definitions come to, by what the callees answered. Assumes nothing.
 use Prim.Native.Nat.{ℕ, _+_, _≤_, _<_}
-use mathlib.Core.Path.{_≡_, sym, _∙_}
+use mathlib.Core.Path.{_≡_, sym, ap, _∙_}
 use mathlib.Core.Bool.{Bool}
 use mathlib.Core.List.{List, _++_}
 use mathlib.Core.Option.{none, some}
 use native.Mathlib.Omega.{arith}
 use borrow.Author.Tests.{lt-ltb, le-ltb}
 use lib.Dec.{ltb}
-use lib.ListN.{length, drop, length-map}
+use lib.ListN.{length, drop}
 use Rattle.tlv.specs.Lists.{first, firstIndex}
 use Rattle.lvs_spec.specs.Limits.{maxCertificates, bindingWords}
-use Rattle.lvs_spec.specs.Types as type
-use Rattle.lvs_spec.specs.Model.{Model, nodeOf, modelOf}
-use Rattle.tlv.specs.Fields.{insides}
-use Rattle.lvs_spec.specs.Verdict.{Verdict, unreadable, describes, reading, judge, verdict}
-use Rattle.lvs_spec.specs.Names.{Component, badName, goodName, nameReading, packetName, keyName}
-use Rattle.lvs_spec.specs.Walk.{Match, packetMatches, pairs}
+use Rattle.lvs_spec.specs.Model.{modelOf}
+use Rattle.lvs_spec.specs.Verdict.{Verdict, verdict}
+use Rattle.lvs_spec.specs.Names.{Component, badName, goodName, nameReading, packetName}
+use Rattle.lvs_spec.specs.Walk.{Match, packetMatches}
 use Rattle.lvs_spec.specs.Answers.{MatchAnswer, plain, words, boundCount, matchRefused, matchFound, matchWalked, matchRoom, matchName, matchIn, matchOutcome}
-use Rattle.lvs_spec.specs.Answers.{SignAnswer, pairFound, signNames, signIn, signAnswer}
+use Rattle.lvs_spec.specs.Answers.{bad, good, inputs, SignOutcome, signRefused, signRoom, signWith, signOutcome}
 use Rattle.lvs_spec.specs.Certificates.{Entry, entries, ListReading, fitEntries, listReading}
 use Rattle.lvs_spec.specs.Certificates.{SuggestAnswer, suggestFrom, suggestName, suggestIn, suggestAnswer}
-use Rattle.lvs_spec.proofs.Reading.{accepted-passed, accepted-judged}
-use Rattle.lvs_spec.proofs.Rules.{judge-few}
 use Rattle.lvs_spec.proofs.Usable.{accepted-usable, refused-unusable}
 use Rattle.lvs_spec.proofs.Indices.{index-below}
-use Rattle.lvs_spec.proofs.Signing.{signs-first}
+use Rattle.lvs_spec.proofs.Signing.{room-first}
 use Rattle.lvs_spec.proofs.Certificates.{reading-fit}
-use Rattle.lvs_edges.specs.Nodes.{Walkable}
-use Rattle.lvs_edges.proofs.Ordered.{well-ordered}
+use Rattle.lvs_names.specs.Rows.{rowFrom}
+use Rattle.lvs_names.specs.declared.Row.{Row}
+use Rattle.lvs_verdict.specs.Answers.{GoodInputs}
+use Rattle.lvs_walk.specs.Calls.{signFound, FirstPair}
+use Rattle.lvs_walk.specs.declared.Found.{Found}
+use Rattle.lvs_walk.proofs.Answers.{pair-outcome}
 
 -- ---- the match call
 
@@ -41,10 +41,10 @@ module _ (b name buffer : List ℕ) where
     unfolding matchOutcome matchIn matchName packetName
     match-bad-name h = rw (accepted-usable b n accepted, ← h)
 
-    module _ {cs : List Component} (good : goodName cs ≡ nameReading 21 name) where
+    module _ {cs : List Component} (good-name : goodName cs ≡ nameReading 21 name) where
       goes-on : matchOutcome b name buffer ≡ matchRoom (ltb (length buffer) bindingWords) (modelOf b) cs buffer
       unfolding matchOutcome matchIn matchName packetName
-      goes-on = rw (accepted-usable b n accepted, ← good)
+      goes-on = rw (accepted-usable b n accepted, ← good-name)
 
       pub match-no-room : length buffer < bindingWords → matchOutcome b name buffer ≡ matchRefused (plain 27) buffer
       unfolding matchRoom
@@ -67,28 +67,38 @@ module _ (b name buffer : List ℕ) where
 
 -- ---- the signing call
 
-module _ (b packet key : List ℕ) where
-  pub sign-refused : {r i : ℕ} → verdict b ≡ Verdict.refused r i → signAnswer b packet key ≡ SignAnswer.refused (record { number = r; at = i })
-  unfolding signAnswer signIn
-  sign-refused {r} {i} h = rw (refused-unusable b r i h)
+module _ (b packet key path : List ℕ) where
+  abbrev outcome : SignOutcome
+  outcome = signOutcome b packet key (record { path = path })
 
-  module _ {n : ℕ} (accepted : verdict b ≡ Verdict.accepted n) where
-    named : signAnswer b packet key ≡ signNames (modelOf b) (nameReading 21 packet) (nameReading 24 key)
-    unfolding signAnswer signIn packetName keyName
-    named = rw (accepted-usable b n accepted)
+  pub sign-refused : {r i : ℕ} → inputs b packet key ≡ bad (record { number = r; at = i })
+      → outcome ≡ signRefused (record { number = r; at = i }) (record { path = path })
+  unfolding signOutcome signWith
+  sign-refused e = ap (λ i. signWith i (record { path = path })) e
 
-    pub sign-bad-packet : {r : ℕ} → badName r ≡ nameReading 21 packet → signAnswer b packet key ≡ SignAnswer.refused (plain r)
-    unfolding signNames
-    sign-bad-packet h = named ∙ rw (← h)
+  module _ {p k : Row} (g : GoodInputs b packet key p k) where
+    abbrev ps : List Component
+    ps = rowFrom packet (p .start)
 
-    module _ {ps : List Component} (good : goodName ps ≡ nameReading 21 packet) where
-      pub sign-bad-key : {r : ℕ} → badName r ≡ nameReading 24 key → signAnswer b packet key ≡ SignAnswer.refused (plain r)
-      unfolding signNames
-      sign-bad-key h = named ∙ rw (← good, ← h)
+    abbrev ks : List Component
+    ks = rowFrom key (k .start)
 
-      pub sign-walked : {ks : List Component} → goodName ks ≡ nameReading 24 key → signAnswer b packet key ≡ pairFound (first (pairs (modelOf b) ps ks))
-      unfolding signAnswer packetName keyName
-      sign-walked h = rw (accepted-usable b n accepted) (signs-first (modelOf b) packet key (sym good) (sym h))
+    counted : length ps + length ks ≡ p .count + k .count
+    counted = rw (g .packet-row .count, g .key-row .count)
+
+    read-on : outcome ≡ signWith (good (modelOf b) ps ks) (record { path = path })
+    unfolding signOutcome
+    read-on = ap (λ i. signWith i (record { path = path })) (g .is)
+
+    pub sign-no-room : length path < p .count + k .count → outcome ≡ signRefused (plain 34) (record { path = path })
+    unfolding signWith signRoom
+    sign-no-room h = read-on ∙ rw (counted, lt-ltb (length path) (p .count + k .count) h)
+
+    pub sign-walked : p .count + k .count ≤ length path → {r q : Found} {after : List ℕ} → FirstPair (modelOf b) ps ks path r after → r ≡ q
+        → record { answer = signFound q; buffers = record { path = after } } ≡ outcome
+    sign-walked room {after = after} f e =
+        let enough : length ps + length ks ≤ length path = omega (arith, counted, room) in
+        ap (λ q. record { answer = signFound q; buffers = record { path = after } }) (sym e) ∙ pair-outcome f enough ∙ sym (read-on ∙ room-first (modelOf b) ps ks (record { path = path }) enough)
 
 -- ---- the suggesting call
 
@@ -106,7 +116,7 @@ module _ (b packet list : List ℕ) where
     pub suggest-listed : {ps : List Component} {l : ListReading} → goodName ps ≡ nameReading 21 packet → l ≡ listReading (entries list)
         → suggestAnswer b packet list ≡ suggestFrom (modelOf b) packet (entries list) l
     unfolding suggestAnswer suggestIn suggestName packetName
-    suggest-listed good read = rw (accepted-usable b n accepted, ← good, ← read)
+    suggest-listed name read = rw (accepted-usable b n accepted, ← name, ← read)
 
 -- an index fits into a word
 pub index-few : (f : Entry → Bool) (list : List ℕ) {i : ℕ} → fitEntries ≡ listReading (entries list) → some i ≡ firstIndex f 0 (entries list)

@@ -1,7 +1,8 @@
--- What is demanded of the four public calls, stated and proved. Read this file first.
+-- What is demanded of the five public calls, stated and proved. Read this file first.
 --
--- The first part ties it to the code: what a caller's proof learns of a call is generated from the call's contract in src/lib.rt, and all that
--- follows is derived from that. It holds of any bytes as model, names, buffer and list, since no call has a `requires`.
+-- The first part ties it to the code: what a caller's proof learns of a call is generated from the call's contract (in src/lib.rt of its crate:
+-- the verdict is in lvs_verdict, following in lvs_follow, the others are here), and all that follows is derived from that. It holds of any bytes as
+-- model, names, buffers, path and list, since no call has a `requires`.
 --
 -- That each call ends, and does nothing undefined, is what the check proves of every function of these crates. Nothing is assumed: the
 -- libraries rest on no axiom and declare no C function. Not covered are the compiler's back end, and the programs' input and output.
@@ -13,7 +14,8 @@ use mathlib.Core.Path.{_≡_, refl, sym, ap, _∙_}
 use mathlib.Core.Logic.{_↔_}
 use mathlib.Core.Bool.{true, false}
 use mathlib.Core.List.{List, _∷_, _++_, List·Memᴰ}
-use lib.ListN.{length, getD}
+use native.Mathlib.Omega.{arith}
+use lib.ListN.{length, take, getD}
 use contract.Lifetimes.{Lfts}
 use denote.Ref.{RefT, at-last}
 use Rattle.tlv.specs.Bytes.{Bytes}
@@ -24,36 +26,45 @@ use Rattle.lvs_spec.specs.Grammar.{meaning, optional, critical}
 use Rattle.lvs_spec.specs.WellFormed.{thisVersion, wellFormed}
 use Rattle.lvs_spec.specs.Model.{Model, modelOf}
 use Rattle.lvs_spec.specs.Verdict.{describes, reading, verdict}
-use Rattle.lvs_spec.specs.Answers.{Outcome, matchRefused, matchOutcome, signAnswer}
+use Rattle.lvs_spec.specs.Answers.{Outcome, matchRefused, matchOutcome, Buffers, SignOutcome, signRefused, signOutcome, followAnswer}
 use Rattle.lvs_spec.specs.Certificates.{suggestAnswer}
 use Rattle.lvs_spec.specs.Gaps.{bare, Inserted, gapPlace, Stands}
-use Rattle.lvs_spec.specs.Demands.{modelRefusals, matchRefusals, signRefusals, suggestRefusals, SomeMatch, NoMatch, SomeAllowed, NoneAllowed}
+use Rattle.lvs_spec.specs.Demands.{modelRefusals, matchRefusals, followRefusals, signRefusals, suggestRefusals, SomeMatch, NoMatch}
+use Rattle.lvs_spec.specs.Demands.{PathRoom, SomeAllowed, NoneAllowed, SomeFollowed, NoneFollowed}
 use Rattle.lvs_spec.specs.Demands.{MalformedAt, FaultWithin, joined, FirstAllowed, NoCertificate, Alike, AllRefuse, unnamed, counted}
 use Rattle.lvs_spec.proofs.Refusals.{verdict-number, refused-malformed}
 use Rattle.lvs_spec.proofs.Reading.{malformed-refused, fault-within}
 use Rattle.lvs_spec.proofs.Matching.{MatchedBy, match-matched, match-some, match-none, match-number}
 use Rattle.lvs_spec.proofs.Signing.{SignedBy, sign-allowed, sign-some, sign-none, sign-number}
+use Rattle.lvs_spec.proofs.Following.{follow-some, follow-none, follow-number, accepted-allowed, some-path, path-accepted}
 use Rattle.lvs_spec.proofs.Suggesting.{suggest-number, suggest-first, suggest-none}
-use Rattle.lvs_spec.proofs.Buffer.{refused-keeps, no-match-keeps, answer-by-length}
+use Rattle.lvs_spec.proofs.Buffer.{refused-keeps, no-match-keeps, answer-by-length, sign-refused-keeps, not-allowed-keeps, sign-by-length}
 use Rattle.lvs_spec.proofs.Temporary.{temporary-words, bound-few}
 use Rattle.lvs_spec.proofs.Same.{SameAnswers as SameDefined, accepted-same}
 use Rattle.lvs_spec.proofs.Unnamed.{same-unnamed}
 use Rattle.lvs_spec.proofs.Counts.{same-counts}
 use Rattle.lvs_spec.proofs.Demand3.{bare-alike, critical-refused, version-refused}
-use Rattle.lvs_spec.proofs.Usable.{all-refuse}
+use Rattle.lvs_spec.proofs.Usable.{usable-accepted, all-refuse}
 use Rattle.lvs_spec.proofs.Critical.{stands}
 use Rattle.lvs_spec.proofs.Optional.{optional-alike}
-use Rattle.lvs.specs.Answers.{verdictOf, matchAnswerOf, signAnswerOf, suggestAnswerOf}
-use Rattle.lvs.specs.declared.Verdict.{Verdict}
-use Rattle.lvs.specs.declared.Verdict.the-variants as verdicts
+use Rattle.lvs_edges.proofs.Ordered.{walkable}
+use Rattle.lvs_edges.proofs.Few.{edges-few}
+use Rattle.lvs_verdict.specs.Answers.{verdictOf}
+use Rattle.lvs_verdict.specs.declared.Verdict.{Verdict}
+use Rattle.lvs_verdict.specs.declared.Verdict.the-variants as verdicts
+use Rattle.lvs_follow.specs.Answers.{followAnswerOf}
+use Rattle.lvs_follow.specs.declared.FollowAnswer.{FollowAnswer}
+use Rattle.lvs_follow.specs.declared.FollowAnswer.the-variants as followings
+use Rattle.lvs.specs.Answers.{matchAnswerOf, signAnswerOf, suggestAnswerOf}
 use Rattle.lvs.specs.declared.MatchAnswer.{MatchAnswer}
 use Rattle.lvs.specs.declared.MatchAnswer.the-variants as matchings
 use Rattle.lvs.specs.declared.SignAnswer.{SignAnswer}
 use Rattle.lvs.specs.declared.SignAnswer.the-variants as signings
 use Rattle.lvs.specs.declared.SuggestAnswer.{SuggestAnswer}
 use Rattle.lvs.specs.declared.SuggestAnswer.the-variants as suggestings
-use Rattle.lvs.proofs.Same.{same-verdict, same-matching, same-signing, same-suggesting}
-use Rattle.lvs.proofs.judge_model.Reads as judge-model
+use Rattle.lvs_verdict.proofs.judge_model.Reads as judge-model
+use Rattle.lvs_follow.proofs.follow.Reads as follow
+use Rattle.lvs.proofs.Same.{same-verdict, same-matching, same-signing, same-following, same-suggesting}
 use Rattle.lvs.proofs.match_name.Reads as match-name
 use Rattle.lvs.proofs.sign.Reads as sign
 use Rattle.lvs.proofs.suggest.Reads as suggest
@@ -80,13 +91,25 @@ pub record Matched (model name buffer : List ℕ) (r : MatchAnswer) (after : Lis
   pub b : Slice
   pub learnt : match-name.Learnt lives (at-last m model, (at-last n name, (at-last b buffer, tt))) r (at-last m model, (at-last n name, (at-last b after, tt)))
 
--- a call of `sign` answered r
-pub record Signed (model packet key : List ℕ) (r : SignAnswer) : Type 0 where
-  pub lives : Lfts 2
+-- a call of `sign` answered r, and the path then held the words `after`
+pub record Signed (model packet key path : List ℕ) (r : SignAnswer) (after : List ℕ) : Type 0 where
+  pub lives : Lfts 3
   pub m : Slice
   pub p : Slice
   pub k : Slice
-  pub learnt : sign.Learnt lives (at-last m model, (at-last p packet, (at-last k key, tt))) r (at-last m model, (at-last p packet, (at-last k key, tt)))
+  pub w : Slice
+  pub learnt : sign.Learnt lives (at-last m model, (at-last p packet, (at-last k key, (at-last w path, tt)))) r
+      (at-last m model, (at-last p packet, (at-last k key, (at-last w after, tt))))
+
+-- a call of `follow` answered r
+pub record Followed (model packet key path : List ℕ) (r : FollowAnswer) : Type 0 where
+  pub lives : Lfts 3
+  pub m : Slice
+  pub p : Slice
+  pub k : Slice
+  pub w : Slice
+  pub learnt : follow.Learnt lives (at-last m model, (at-last p packet, (at-last k key, (at-last w path, tt)))) r
+      (at-last m model, (at-last p packet, (at-last k key, (at-last w path, tt))))
 
 -- a call of `suggest` answered r
 pub record Suggested (model packet list : List ℕ) (r : SuggestAnswer) : Type 0 where
@@ -96,7 +119,7 @@ pub record Suggested (model packet list : List ℕ) (r : SuggestAnswer) : Type 0
   pub l : Slice
   pub learnt : suggest.Learnt lives (at-last m model, (at-last p packet, (at-last l list, tt))) r (at-last m model, (at-last p packet, (at-last l list, tt)))
 
--- the answer of each call, and every word of the buffer after it, are those of the definitions
+-- the answer of each call, and every word of what is lent to it, are those of the definitions
 pub judged-is : {model : List ℕ} {r : Verdict} → Judged model r → verdictOf r ≡ verdict model
 judged-is c = c .learnt
 
@@ -104,8 +127,13 @@ pub matched-is : {model name buffer after : List ℕ} {r : MatchAnswer} → Matc
     → _≡_ {A = Outcome} (record { answer = matchAnswerOf r; words = after }) (matchOutcome model name buffer)
 matched-is c = c .learnt
 
-pub signed-is : {model packet key : List ℕ} {r : SignAnswer} → Signed model packet key r → signAnswerOf r ≡ signAnswer model packet key
+pub signed-is : {model packet key path after : List ℕ} {r : SignAnswer} → Signed model packet key path r after
+    → _≡_ {A = SignOutcome} (record { answer = signAnswerOf r; buffers = record { path = after } }) (signOutcome model packet key (record { path = path }))
 signed-is c = c .learnt
+
+pub followed-is : {model packet key path : List ℕ} {r : FollowAnswer} → Followed model packet key path r
+    → followAnswerOf r ≡ followAnswer model packet key path
+followed-is c = c .learnt
 
 pub suggested-is : {model packet list : List ℕ} {r : SuggestAnswer} → Suggested model packet list r → suggestAnswerOf r ≡ suggestAnswer model packet list
 suggested-is c = c .learnt
@@ -117,8 +145,11 @@ judge-asks-nothing lives m = tt
 pub match-asks-nothing : (lives : Lfts 3) (m n b : Slice) → match-name.Asked lives (m, (n, (b, tt)))
 match-asks-nothing lives m n b = tt
 
-pub sign-asks-nothing : (lives : Lfts 2) (m p k : Slice) → sign.Asked lives (m, (p, (k, tt)))
-sign-asks-nothing lives m p k = tt
+pub sign-asks-nothing : (lives : Lfts 3) (m p k w : Slice) → sign.Asked lives (m, (p, (k, (w, tt))))
+sign-asks-nothing lives m p k w = tt
+
+pub follow-asks-nothing : (lives : Lfts 3) (m p k w : Slice) → follow.Asked lives (m, (p, (k, (w, tt))))
+follow-asks-nothing lives m p k w = tt
 
 pub suggest-asks-nothing : (lives : Lfts 2) (m p l : Slice) → suggest.Asked lives (m, (p, (l, tt)))
 suggest-asks-nothing lives m p l = tt
@@ -194,47 +225,127 @@ buffer-unread {model} {name} {buffer} {other} {r = r} {q = q} l c d =
 
 -- ---- the signing call
 
-module _ {model packet key : List ℕ} where
-  -- a refusal is one of a model, a packet name or a key name
-  pub sign-refusals : {number at : ℕ} → Signed model packet key (signings.Refused number at) → List·Memᴰ number signRefusals
-  sign-refusals c = sign-number model packet key _ (sym (signed-is c))
+-- what is lent to the call
+abbrev pub lent : List ℕ → Buffers
+lent path = record { path = path }
+
+module _ {model packet key path after : List ℕ} where
+  signed-answer : {r : SignAnswer} → Signed model packet key path r after → signAnswerOf r ≡ signOutcome model packet key (lent path) .answer
+  signed-answer c = ap (λ (o : SignOutcome). o .answer) (signed-is c)
+
+  path-left : {r : SignAnswer} → Signed model packet key path r after → after ≡ signOutcome model packet key (lent path) .buffers .path
+  path-left c = ap (λ (o : SignOutcome). o .buffers .path) (signed-is c)
+
+  -- a refused call leaves the path as it was, and so does "not allowed"
+  pub refused-keeps-path : {number at : ℕ} → Signed model packet key path (signings.Refused number at) after → after ≡ path
+  refused-keeps-path c = path-left c ∙ ap (λ (s : Buffers). s .path) (sign-refused-keeps model packet key (lent path) _ (sym (signed-answer c)))
+
+  pub not-allowed-keeps-path : Signed model packet key path signings.NotAllowed after → after ≡ path
+  not-allowed-keeps-path c = path-left c ∙ ap (λ (s : Buffers). s .path) (not-allowed-keeps model packet key (lent path) (sym (signed-answer c)))
+
+  -- a refusal is one of a model, a packet name, a key name or a path
+  pub sign-refusals : {number at : ℕ} → Signed model packet key path (signings.Refused number at) after → List·Memᴰ number signRefusals
+  sign-refusals c = sign-number model packet key (lent path) _ (sym (signed-answer c))
 
   -- "allowed" exactly when some packet match, and some key match that starts from its bindings, end at a node and at a signer which
-  -- that node lists
-  pub allowed-exactly : {r : SignAnswer} → Signed model packet key r → ((p k : ℕ) × (r ≡ signings.Allowed p k)) ↔ SomeAllowed model packet key
+  -- that node lists, and there is room for the path
+  pub allowed-exactly : {r : SignAnswer} → Signed model packet key path r after
+      → ((p k : ℕ) × (r ≡ signings.Allowed p k)) ↔ (SomeAllowed model packet key × PathRoom packet key (lent path))
   allowed-exactly {r} c = (
-    λ (p, k, e). sign-some model packet key .0 (p, k, sym (signed-is c) ∙ ap signAnswerOf e),
-    λ s. let (p, k, e) = sign-some model packet key .1 s in (p, k, same-signing r _ (signed-is c ∙ e)),
+    λ (p, k, e). sign-some model packet key (lent path) .0 (p, k, sym (signed-answer c) ∙ ap signAnswerOf e),
+    λ s. let (p, k, e) = sign-some model packet key (lent path) .1 s in (p, k, same-signing r _ (signed-answer c ∙ e)),
   )
 
-  -- "not allowed" exactly when none do
-  pub not-allowed-exactly : {r : SignAnswer} → Signed model packet key r → (r ≡ signings.NotAllowed) ↔ NoneAllowed model packet key
+  -- "not allowed" exactly when none do, and there is room
+  pub not-allowed-exactly : {r : SignAnswer} → Signed model packet key path r after
+      → (r ≡ signings.NotAllowed) ↔ (NoneAllowed model packet key × PathRoom packet key (lent path))
   not-allowed-exactly {r} c = (
-    λ e. sign-none model packet key .0 (sym (signed-is c) ∙ ap signAnswerOf e),
-    λ s. same-signing r _ (signed-is c ∙ sign-none model packet key .1 s),
+    λ e. sign-none model packet key (lent path) .0 (sym (signed-answer c) ∙ ap signAnswerOf e),
+    λ s. same-signing r _ (signed-answer c ∙ sign-none model packet key (lent path) .1 s),
   )
 
-  -- the pair is the first: packet matches in order, for each the key matches in order
-  pub first-pair : {p k : ℕ} → Signed model packet key (signings.Allowed p k) → SignedBy model packet key p k
-  first-pair {p} {k} c = sign-allowed model packet key p k (sym (signed-is c))
+  -- the pair is the first: packet matches in order, for each the key matches in order; the path is its own, and later words stay
+  pub first-pair : {p k : ℕ} → Signed model packet key path (signings.Allowed p k) after
+      → SignedBy model packet key (lent path) p k (lent after)
+  first-pair {p} {k} c = rw (path-left c) (sign-allowed model packet key (lent path) p k (sym (signed-answer c)))
+
+-- the answer does not depend on what the path holds, only on its length
+pub path-unread : {model packet key path other after last : List ℕ} {r q : SignAnswer} → length path ≡ length other
+    → Signed model packet key path r after → Signed model packet key other q last → r ≡ q
+path-unread {model} {packet} {key} {r = r} {q = q} l c d =
+    same-signing r q (signed-answer c ∙ sign-by-length model packet key _ _ l ∙ sym (signed-answer d))
+
+-- ---- the following call
+
+module _ {model packet key path : List ℕ} where
+  -- a refusal is one of a model, a packet name or a key name
+  pub follow-refusals : {number at : ℕ} → Followed model packet key path (followings.Refused number at) → List·Memᴰ number followRefusals
+  follow-refusals c = follow-number model packet key path _ (sym (followed-is c))
+
+  -- "accepted" exactly when the path has one word for each component, every edge may be crossed, and the end is a signer that the packet's node
+  -- lists
+  pub accepted-exactly : {r : FollowAnswer} → Followed model packet key path r → (r ≡ followings.Accepted) ↔ SomeFollowed model packet key path
+  accepted-exactly {r} c = (
+    λ e. follow-some model packet key path .0 (sym (followed-is c) ∙ ap followAnswerOf e),
+    λ s. same-following r _ (followed-is c ∙ follow-some model packet key path .1 s),
+  )
+
+  -- "no" exactly when that is not so
+  pub no-exactly : {r : FollowAnswer} → Followed model packet key path r → (r ≡ followings.No) ↔ NoneFollowed model packet key path
+  no-exactly {r} c = (
+    λ e. follow-none model packet key path .0 (sym (followed-is c) ∙ ap followAnswerOf e),
+    λ s. same-following r _ (followed-is c ∙ follow-none model packet key path .1 s),
+  )
+
+  -- whoever made the path, accepted means allowed: a signing call with room enough says so
+  pub accepted-signs : {words after : List ℕ} {r : SignAnswer} → Followed model packet key path followings.Accepted
+      → PathRoom packet key (lent words) → Signed model packet key words r after → (p k : ℕ) × (r ≡ signings.Allowed p k)
+  accepted-signs c enough s = allowed-exactly s .1 (accepted-allowed model packet key path (sym (followed-is c)), enough)
+
+-- the path of an allowed answer is accepted: the first words after it, one for each component
+pub signed-accepted : {model packet key path after : List ℕ} {p k : ℕ} {r : FollowAnswer} (c : Signed model packet key path (signings.Allowed p k) after)
+    → let by = first-pair c in Followed model packet key (take (length (by .packet-components) + length (by .key-components)) after) r
+    → r ≡ followings.Accepted
+signed-accepted {r = r} c f = same-following r _ (followed-is f ∙ path-accepted (first-pair c))
+
+-- so for each allowed pair some path is
+pub record AcceptedPath (model packet key : List ℕ) : Type 0 where
+  pub path : List ℕ
+  pub words-fit : (w : ℕ) → List·Memᴰ w path → w < 65536
+  pub accepted : {r : FollowAnswer} → Followed model packet key path r → r ≡ followings.Accepted
+
+pub some-path-accepted : {model packet key : List ℕ} → SomeAllowed model packet key → AcceptedPath model packet key
+some-path-accepted {model} {packet} {key} a =
+    let w = some-path a in
+    let (m, ps, ks, g, p) = a in
+    let (n, e) = usable-accepted model (g .usable-is) in
+    let walks = walkable model e in
+    record {
+      path = w .path;
+      words-fit = λ x i. let l = w .low (length model) (edges-few model walks) i in omega (arith, l, walks .short);
+      accepted = λ {r} f. same-following r _ (followed-is f ∙ w .accepted);
+    }
 
 -- ---- the suggesting call
 
--- what the signing call says of each certificate, one after the other: not to those before, but to the one with index i
+-- what the signing call, with room for the path, says of each certificate, one after the other: not to those before, but to the one with index i
 pub record FirstBySigning (model packet list : List ℕ) (i : ℕ) : Type 0 where
   pub before : List (List ℕ)
   pub key : List ℕ
   pub behind : List (List ℕ)
   pub list-is : list ≡ joined (before ++ (key ∷ behind))
   pub index : length before ≡ i
-  pub earlier : {k : List ℕ} {r : SignAnswer} → List·Memᴰ k before → Signed model packet k r → r ≡ signings.NotAllowed
-  pub allowed : {r : SignAnswer} → Signed model packet key r → (p k : ℕ) × (r ≡ signings.Allowed p k)
+  pub earlier : {k path after : List ℕ} {r : SignAnswer} → List·Memᴰ k before → PathRoom packet k (lent path)
+      → Signed model packet k path r after → r ≡ signings.NotAllowed
+  pub allowed : {path after : List ℕ} {r : SignAnswer} → PathRoom packet key (lent path) → Signed model packet key path r after
+      → (p k : ℕ) × (r ≡ signings.Allowed p k)
 
 -- or not to any
 pub record NoneBySigning (model packet list : List ℕ) : Type 0 where
   pub keys : List (List ℕ)
   pub list-is : list ≡ joined keys
-  pub none-allowed : {k : List ℕ} {r : SignAnswer} → List·Memᴰ k keys → Signed model packet k r → r ≡ signings.NotAllowed
+  pub none-allowed : {k path after : List ℕ} {r : SignAnswer} → List·Memᴰ k keys → PathRoom packet k (lent path)
+      → Signed model packet k path r after → r ≡ signings.NotAllowed
 
 module _ {model packet list : List ℕ} where
   -- a refusal is one of a model, a packet name or a list
@@ -267,22 +378,25 @@ module _ {model packet list : List ℕ} where
           behind = f .behind;
           list-is = f .inputs .list-is;
           index = f .index;
-          earlier = λ {k} i s. not-allowed-exactly s .1 (f .earlier k i);
-          allowed = λ s. allowed-exactly s .1 (f .allowed);
+          earlier = λ {k} i enough s. not-allowed-exactly s .1 (f .earlier k i, enough);
+          allowed = λ enough s. allowed-exactly s .1 (f .allowed, enough);
         }
 
     pub no-certificate-signs : Suggested model packet list suggestings.NoCertificate → NoneBySigning model packet list
     no-certificate-signs c =
         let f = no-certificate-exactly c .0 refl in
-        record { keys = f .keys; list-is = f .inputs .list-is; none-allowed = λ {k} i s. not-allowed-exactly s .1 (f .none-allowed k i) }
+        record { keys = f .keys; list-is = f .inputs .list-is; none-allowed = λ {k} i enough s. not-allowed-exactly s .1 (f .none-allowed k i, enough) }
 
 -- ---- all calls: elements that change nothing, and elements that are refused
 
--- two models have the same matches, signing answers and suggestions and leave the same words, given the same names, equal buffers and the same list
+-- two models have the same matches, signing answers and suggestions and leave the same words, path and all, given the same names, equal buffers and
+-- the same list; and the same paths are accepted
 pub record SameAnswers (a b : List ℕ) : Type 0 where
   pub matched : {name buffer after last : List ℕ} {r q : MatchAnswer} → Matched a name buffer r after → Matched b name buffer q last
       → (r ≡ q) × (after ≡ last)
-  pub signed : {packet key : List ℕ} {r q : SignAnswer} → Signed a packet key r → Signed b packet key q → r ≡ q
+  pub signed : {packet key path after last : List ℕ} {r q : SignAnswer} → Signed a packet key path r after → Signed b packet key path q last
+      → (r ≡ q) × (after ≡ last)
+  pub followed : {packet key path : List ℕ} {r q : FollowAnswer} → Followed a packet key path r → Followed b packet key path q → r ≡ q
   pub suggested : {packet list : List ℕ} {r q : SuggestAnswer} → Suggested a packet list r → Suggested b packet list q → r ≡ q
 
 -- and the same verdict
@@ -290,11 +404,12 @@ pub record SameCalls (a b : List ℕ) : Type 0 where
   pub judged : {r q : Verdict} → Judged a r → Judged b q → r ≡ q
   pub answers : SameAnswers a b
 
--- all calls refuse with these two numbers, and leave the buffer as it is
+-- all calls refuse with these two numbers, and leave the buffers as they are
 pub record RefusedCalls (number at : ℕ) (b : List ℕ) : Type 0 where
   pub judged : {r : Verdict} → Judged b r → r ≡ verdicts.Refused number at
   pub matched : {name buffer after : List ℕ} {r : MatchAnswer} → Matched b name buffer r after → (r ≡ matchings.Refused number at) × (after ≡ buffer)
-  pub signed : {packet key : List ℕ} {r : SignAnswer} → Signed b packet key r → r ≡ signings.Refused number at
+  pub signed : {packet key path after : List ℕ} {r : SignAnswer} → Signed b packet key path r after → (r ≡ signings.Refused number at) × (after ≡ path)
+  pub followed : {packet key path : List ℕ} {r : FollowAnswer} → Followed b packet key path r → r ≡ followings.Refused number at
   pub suggested : {packet list : List ℕ} {r : SuggestAnswer} → Suggested b packet list r → r ≡ suggestings.Refused number at
 
 same-answers : {a b : List ℕ} → SameDefined a b → SameAnswers a b
@@ -303,7 +418,10 @@ same-answers s =
       matched = λ {name} {buffer} {r = r} {q = q} c d.
           let e = matched-is c ∙ s .matched name buffer ∙ sym (matched-is d) in
           (same-matching r q (ap (λ (o : Outcome). o .answer) e), ap (λ (o : Outcome). o .words) e);
-      signed = λ {packet} {key} {r} {q} c d. same-signing r q (signed-is c ∙ s .signed packet key ∙ sym (signed-is d));
+      signed = λ {packet} {key} {path} {r = r} {q = q} c d.
+          let e = signed-is c ∙ s .signed packet key (record { path = path }) ∙ sym (signed-is d) in
+          (same-signing r q (ap (λ (o : SignOutcome). o .answer) e), ap (λ (o : SignOutcome). o .buffers .path) e);
+      followed = λ {packet} {key} {path} {r} {q} c d. same-following r q (followed-is c ∙ s .followed packet key path ∙ sym (followed-is d));
       suggested = λ {packet} {list} {r} {q} c d. same-suggesting r q (suggested-is c ∙ s .suggested packet list ∙ sym (suggested-is d));
     }
 
@@ -311,18 +429,21 @@ pub same-calls : {a b : List ℕ} → Alike a b → SameCalls a b
 same-calls s =
     record {
       judged = λ {r} {q} c d. same-verdict r q (judged-is c ∙ s .verdicts ∙ sym (judged-is d));
-      answers = same-answers (record { matched = s .matched; signed = s .signed; suggested = s .suggested });
+      answers = same-answers (record { matched = s .matched; signed = s .signed; followed = s .followed; suggested = s .suggested });
     }
 
 refused-calls : {n i : ℕ} {b : List ℕ} → AllRefuse n i b → RefusedCalls n i b
-unfolding matchRefused
+unfolding matchRefused signRefused
 refused-calls s =
     record {
       judged = λ {r} c. same-verdict r _ (judged-is c ∙ s .verdicts);
       matched = λ {name} {buffer} {r = r} c.
           let e = matched-is c ∙ s .matched name buffer in
           (same-matching r _ (ap (λ (o : Outcome). o .answer) e), ap (λ (o : Outcome). o .words) e);
-      signed = λ {packet} {key} {r} c. same-signing r _ (signed-is c ∙ s .signed packet key);
+      signed = λ {packet} {key} {path} {r = r} c.
+          let e = signed-is c ∙ s .signed packet key (record { path = path }) in
+          (same-signing r _ (ap (λ (o : SignOutcome). o .answer) e), ap (λ (o : SignOutcome). o .buffers .path) e);
+      followed = λ {packet} {key} {path} {r} c. same-following r _ (followed-is c ∙ s .followed packet key path);
       suggested = λ {packet} {list} {r} c. same-suggesting r _ (suggested-is c ∙ s .suggested packet list);
     }
 

@@ -1,11 +1,15 @@
 -- Two answers that say the same are the same: each can be read back. Assumes nothing.
 use mathlib.Core.Path.{_≡_, refl, sym, ap, _∙_}
 use Rattle.lvs_spec.specs.Verdict.{Verdict as Judgement}
-use Rattle.lvs_spec.specs.Answers.{MatchAnswer as Matching, SignAnswer as Signing}
+use Rattle.lvs_spec.specs.Answers.{MatchAnswer as Matching, SignAnswer as Signing, FollowAnswer as Following}
 use Rattle.lvs_spec.specs.Certificates.{SuggestAnswer as Suggesting}
-use Rattle.lvs.specs.Answers.{verdictOf, matchAnswerOf, signAnswerOf, suggestAnswerOf}
-use Rattle.lvs.specs.declared.Verdict.{Verdict}
-use Rattle.lvs.specs.declared.Verdict.the-variants as verdicts
+use Rattle.lvs_verdict.specs.Answers.{verdictOf}
+use Rattle.lvs_follow.specs.Answers.{followAnswerOf}
+use Rattle.lvs.specs.Answers.{matchAnswerOf, signAnswerOf, suggestAnswerOf}
+use Rattle.lvs_verdict.specs.declared.Verdict.{Verdict}
+use Rattle.lvs_verdict.specs.declared.Verdict.the-variants as verdicts
+use Rattle.lvs_follow.specs.declared.FollowAnswer.{FollowAnswer}
+use Rattle.lvs_follow.specs.declared.FollowAnswer.the-variants as followings
 use Rattle.lvs.specs.declared.MatchAnswer.{MatchAnswer}
 use Rattle.lvs.specs.declared.MatchAnswer.the-variants as matchings
 use Rattle.lvs.specs.declared.SignAnswer.{SignAnswer}
@@ -55,6 +59,20 @@ signing-back (signings.Refused n i) = refl
 
 pub same-signing : (r q : SignAnswer) → signAnswerOf r ≡ signAnswerOf q → r ≡ q
 same-signing = same-back signAnswerOf signingFrom signing-back
+
+followingFrom : Following → FollowAnswer
+followingFrom Following.accepted = followings.Accepted
+followingFrom Following.no = followings.No
+followingFrom (Following.refused r) = followings.Refused (r .number) (r .at)
+
+following-back : (r : FollowAnswer) → followingFrom (followAnswerOf r) ≡ r
+unfolding followingFrom
+following-back followings.Accepted = refl
+following-back followings.No = refl
+following-back (followings.Refused n i) = refl
+
+pub same-following : (r q : FollowAnswer) → followAnswerOf r ≡ followAnswerOf q → r ≡ q
+same-following = same-back followAnswerOf followingFrom following-back
 
 suggestingFrom : Suggesting → SuggestAnswer
 suggestingFrom (Suggesting.certificate i) = suggestings.Certificate i

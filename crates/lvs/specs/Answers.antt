@@ -1,19 +1,12 @@
 -- Each case of an answer's enum, with the numbers and values of docs/format.md.
-use Rattle.lvs_spec.specs.Verdict.{Verdict as Judgement}
 use Rattle.lvs_spec.specs.Answers.{MatchAnswer as Matching, SignAnswer as Signing}
 use Rattle.lvs_spec.specs.Certificates.{SuggestAnswer as Suggesting}
-use Rattle.lvs.specs.declared.Verdict.{Verdict}
-use Rattle.lvs.specs.declared.Verdict.the-variants as verdicts
 use Rattle.lvs.specs.declared.MatchAnswer.{MatchAnswer}
 use Rattle.lvs.specs.declared.MatchAnswer.the-variants as matchings
 use Rattle.lvs.specs.declared.SignAnswer.{SignAnswer}
 use Rattle.lvs.specs.declared.SignAnswer.the-variants as signings
 use Rattle.lvs.specs.declared.SuggestAnswer.{SuggestAnswer}
 use Rattle.lvs.specs.declared.SuggestAnswer.the-variants as suggestings
-
-abbrev pub verdictOf : Verdict → Judgement
-verdictOf (verdicts.Accepted n) = Judgement.accepted n
-verdictOf (verdicts.Refused r i) = Judgement.refused r i
 
 abbrev pub matchAnswerOf : MatchAnswer → Matching
 matchAnswerOf (matchings.Match v n) = Matching.matched v n

@@ -70,7 +70,7 @@ signers-of : (model : List ℕ) (v : ℕ) → integers type.SignConstraint (node
 unfolding nodeOf
 signers-of model v = sym (ap (λ (n : Node). n .signers) (node-at model v))
 
-edges-of : {model : List ℕ} → Walkable model → (v : ℕ) → fileEdges (nodeInside model v) ≡ edges (nodeAt (modelOf model) v)
+pub edges-of : {model : List ℕ} → Walkable model → (v : ℕ) → fileEdges (nodeInside model v) ≡ edges (nodeAt (modelOf model) v)
 edges-of {model} W v = W .ordered v ∙ ap edges (sym (node-at model v))
 
 -- ---- the part of the model

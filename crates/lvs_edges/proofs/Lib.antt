@@ -4,4 +4,5 @@ pub mod Places
 pub mod Plain
 pub mod Crossed
 pub mod Ordered
+pub mod Few
 pub mod Rows

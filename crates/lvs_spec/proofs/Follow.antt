@@ -1,8 +1,10 @@
 -- A path says enough: whoever made it, one that can be followed leads to two matches that are allowed, and the path of two such matches can be
 -- followed. Assumes nothing.
-use Prim.Native.Nat.{ℕ, suc, _+_}
+use Prim.Native.Nat.{ℕ, suc, _+_, _≤_, _<_}
 use mathlib.Core.Path.{_≡_, refl, sym, ap, _∙_, subst}
-use mathlib.Core.List.{List, [], _∷_, _++_, append-assoc, append-nil, List·Memᴰ, List·Memᴰ·head, List·Memᴰ·eq-of-singleton}
+use mathlib.Core.Logic.{_⊎_, inl, inr, ⊎-elim}
+use mathlib.Core.List.{List, [], _∷_, _++_, append-assoc, append-nil, List·Memᴰ, List·Memᴰ·head, List·Memᴰ·not-nil, List·Memᴰ·eq-of-singleton}
+use mathlib.Core.List.{List·Memᴰ·append-cases, List·Memᴰ·cases-cons}
 use mathlib.Core.Option.{Option, none, some, Option·none-ne-some, Option·some-injective}
 use native.Mathlib.Omega.{arith}
 use lib.ListN.{length, length-append, length-map, getElem?, take, drop, take-append-drop}
@@ -13,7 +15,7 @@ use Rattle.lvs_spec.specs.Names.{Component}
 use Rattle.lvs_spec.specs.Walk.{Binding, packetRow, keyRow, Match, Pair, noBindings, begin, cross, matches, packetTrace, keyTrace}
 use Rattle.lvs_spec.specs.Walk.{packetMatches, keyMatches, pairPath, lists, follow, followPair}
 use Rattle.lvs_spec.specs.Demands.{Allowed, Way, arrived, crossing, Followed}
-use Rattle.lvs_spec.proofs.Lists.{each-in, each-from, bind-from, guard-from, at-numbered}
+use Rattle.lvs_spec.proofs.Lists.{each-in, each-from, bind-from, guard-from, getElem-lt, at-numbered}
 use Rattle.lvs_spec.proofs.Trace.{crossings, matches-end, matches-step, cross-path, crossing-from}
 
 module _ (m : Model) where
@@ -45,6 +47,16 @@ module _ (m : Model) where
   way-path {x = x} arrived = sym (append-nil (x .path))
   way-path {x = x} (crossing {c = c} {i = i} {p = p} e there k w) =
       way-path w ∙ ap (λ q. q ++ p) (cross-path m c x i e k) ∙ append-assoc (x .path) (i ∷ []) p
+
+  -- each an ordinal of an edge
+  way-low : (n : ℕ) → ((v : ℕ) → length (edges (nodeAt m v)) ≤ n) → {cs : List Binding} {p : List ℕ} {x y : Match} → Way m cs p x y
+      → {w : ℕ} → List·Memᴰ w p → w < n
+  way-low n few arrived i = absurd (List·Memᴰ·not-nil i)
+  way-low n few {x = x} (crossing {i = j} {p = p} e there k way) {w} i = go (List·Memᴰ·cases-cons i) (way-low n few way)
+    where
+      go : (w ≡ j) ⊎ List·Memᴰ w p → (List·Memᴰ w p → w < n) → w < n
+      go (inl f) rest = omega (arith, f, few (x .node), getElem-lt (edges (nodeAt m (x .node))) j there)
+      go (inr q) rest = rest q
 
   -- ---- a way leads to a match, and a match has its own way
 
@@ -130,6 +142,11 @@ module _ (m : Model) (packet key : List Component) where
     pub allowed-length : length (pairPath (record { packet = x; key = y })) ≡ length packet + length key
     unfolding pairPath
     allowed-length = omega (arith, length-append (x .path) (y .path), packet-length, key-length)
+
+    -- each of which is an ordinal
+    pub allowed-low : (n : ℕ) → ((v : ℕ) → length (edges (nodeAt m v)) ≤ n) → {w : ℕ} → List·Memᴰ w (pairPath (record { packet = x; key = y })) → w < n
+    unfolding pairPath
+    allowed-low n few i = ⊎-elim (way-low m n few packet-own) (way-low m n few key-own) (List·Memᴰ·append-cases (x .path) i)
 
     -- and leads to them
     pub allowed-followed : Followed m packet key (pairPath (record { packet = x; key = y })) x y

@@ -1,6 +1,6 @@
 -- The following call: a path is accepted exactly when it has one word for each component, every edge may be crossed, and the end is a signer that
 -- the packet's Node lists; and that is exactly when it is the path of a pair that is allowed. Assumes nothing.
-use Prim.Native.Nat.{ℕ, _+_}
+use Prim.Native.Nat.{ℕ, _+_, _≤_, _<_}
 use mathlib.Core.Path.{_≡_, refl, sym, ap, _∙_, subst}
 use mathlib.Core.Logic.{_↔_}
 use mathlib.Core.Bool.{true}
@@ -9,14 +9,15 @@ use mathlib.Core.Option.{Option, none, some}
 use lib.ListN.{length, take}
 use lib.Seq.{take-at}
 use Rattle.tlv.specs.Lists.{isSome}
-use Rattle.lvs_spec.specs.Model.{Model}
+use Rattle.lvs_spec.specs.Model.{Model, edges, nodeAt, modelOf}
 use Rattle.lvs_spec.specs.Names.{Component}
 use Rattle.lvs_spec.specs.Walk.{Match, Pair, pairPath, pairs, followPair}
 use Rattle.lvs_spec.specs.Answers.{Refusal, Inputs, inputs, Buffers, FollowAnswer, followed, followWith}
 use Rattle.lvs_spec.specs.Answers.{followAnswer}
 use Rattle.lvs_spec.specs.Demands.{SignInputs, SomeAllowed, Followed, SomeFollowed, NoneFollowed, followRefusals}
 use Rattle.lvs_spec.proofs.Lists.{clash}
-use Rattle.lvs_spec.proofs.Follow.{pair-followed, followed-pair, followed-path, followed-allowed, allowed-followed, allowed-length}
+use Rattle.lvs_spec.proofs.Follow.{pair-followed, followed-pair, followed-path, followed-allowed, allowed-followed, allowed-length, allowed-low}
+use Rattle.lvs_spec.proofs.Usable.{usable-model}
 use Rattle.lvs_spec.proofs.Inputs.{Read, refuses, reads, inputs-good, inputs-read}
 use Rattle.lvs_spec.proofs.Signing.{SignedBy, pair-allowed, allowed-pair}
 
@@ -84,10 +85,21 @@ module _ (b packet key path : List ℕ) where
   pub accepted-allowed : followAnswer b packet key path ≡ FollowAnswer.accepted → SomeAllowed b packet key
   accepted-allowed h = let (m, ps, ks, g, (x, y, f)) = follow-some .0 h in (m, ps, ks, g, (x, y, followed-allowed m ps ks f))
 
+-- a path that is accepted, each of its words below the most edges that a Node has
+pub record SomePath (b packet key : List ℕ) : Type 0 where
+  pub path : List ℕ
+  pub low : (n : ℕ) → ((v : ℕ) → length (edges (nodeAt (modelOf b) v)) ≤ n) → {w : ℕ} → List·Memᴰ w path → w < n
+  pub accepted : followAnswer b packet key path ≡ FollowAnswer.accepted
+
 module _ {b packet key : List ℕ} where
-  -- two matches that are allowed have a path that is accepted
-  pub some-path : SomeAllowed b packet key → (path : List ℕ) × (followAnswer b packet key path ≡ FollowAnswer.accepted)
-  some-path (m, ps, ks, g, (x, y, a)) = (_, follow-some b packet key _ .1 (m, ps, ks, g, (x, y, allowed-followed m ps ks a)))
+  -- two matches that are allowed have one
+  pub some-path : SomeAllowed b packet key → SomePath b packet key
+  some-path (m, ps, ks, g, (x, y, a)) =
+      record {
+        path = pairPath (record { packet = x; key = y });
+        low = λ n few i. allowed-low m ps ks a n (rw (usable-model b (g .usable-is)) at few) i;
+        accepted = follow-some b packet key _ .1 (m, ps, ks, g, (x, y, allowed-followed m ps ks a));
+      }
 
   -- the path that "allowed" leaves in the buffer is accepted
   pub path-accepted : {s after : Buffers} {p k : ℕ} (w : SignedBy b packet key s p k after)

@@ -5,11 +5,12 @@ use Rattle.lvs_spec.specs.Verdict.{Verdict, verdict}
 use Rattle.lvs_spec.specs.Names.{goodName, nameReading}
 use Rattle.lvs_spec.specs.Answers.{matchRefused}
 use Rattle.lvs_spec.proofs.Names.{good-short}
-use Rattle.lvs_names.specs.Answers.{nameRead}
 use Rattle.lvs_names.specs.Rows.{rowFrom}
+use Rattle.lvs_names.proofs.Read.{read-bad, read-good}
 use Rattle.lvs_walk.proofs.Answers.{found-none, found-match}
-use Rattle.lvs.specs.Answers.{verdictOf}
-use Rattle.lvs.proofs.Calls.{walkable, match-refused, match-bad-name, match-no-room, match-none, match-some}
+use Rattle.lvs_edges.proofs.Ordered.{walkable}
+use Rattle.lvs_verdict.specs.Answers.{verdictOf}
+use Rattle.lvs.proofs.Calls.{match-refused, match-bad-name, match-no-room, match-none, match-some}
 use Rattle.lvs.proofs.match_name.Statement.{statement}
 use Rattle.lvs.proofs.match_name.Tie as tie
 
@@ -20,14 +21,14 @@ start c = c .before .before .before .before
 accepted : (c : tie.After-enum-told) → verdict (start (c .before .before) .args .model .now) ≡ Verdict.accepted (c .enum-told .given .0 .0)
 accepted c = sym (c .before .before .judge-model .ensures) ∙ ap verdictOf (c .enum-told .given .1)
 
-abbrev judged : tie.After-from → tie.After-enum-told
+abbrev judged : tie.After-row → tie.After-enum-told
 judged c = c .before .before .before
 
-abbrev began : tie.After-from → tie.Start
+abbrev began : tie.After-row → tie.Start
 began c = start (judged c .before .before)
 
-good : (c : tie.After-from) → goodName (rowFrom (began c .args .name .now) (c .from .given .0 .0)) ≡ nameReading 21 (began c .args .name .now)
-good c = sym (ap (nameRead (began c .args .name .now)) (c .from .given .1)) ∙ c .before .before .read-name .ensures
+good : (c : tie.After-row) → goodName (rowFrom (began c .args .name .now) (c .row .given .0 .0 .start)) ≡ nameReading 21 (began c .args .name .now)
+good c = read-good (c .before .before .read-name .ensures) (c .row .given .1)
 
 returns : tie.Need-returns
 unfolding matchRefused
@@ -62,7 +63,7 @@ returns-3 c =
     let read = c .before .before .before in
     let e = read .before in
     let a = start (e .before .before) .args in
-    let bad = sym (ap (nameRead (a .name .now)) (c .before .number2 .given .1)) ∙ read .read-name .ensures in
+    let bad = read-bad (read .read-name .ensures) (c .before .number2 .given .1) in
     sym (match-bad-name (a .model .now) (a .name .now) (a .buffer .now) (accepted e) bad)
 
 returns-4 : tie.Need-returns-4

@@ -6,13 +6,14 @@ use Rattle.lvs_spec.specs.Model.{modelOf}
 use Rattle.lvs_spec.specs.Verdict.{Verdict, verdict}
 use Rattle.lvs_spec.specs.Names.{goodName, nameReading, packetName}
 use Rattle.lvs_spec.specs.Certificates.{entries, fitEntries, listReading, allows, SuggestAnswer as Suggesting, suggested, suggestFrom, suggestAnswer}
-use Rattle.lvs_names.specs.Answers.{nameRead}
 use Rattle.lvs_names.specs.Rows.{rowFrom}
+use Rattle.lvs_names.proofs.Read.{read-bad, read-good}
 use Rattle.lvs_certificates.specs.Answers.{indexOf, listRead}
 use Rattle.lvs_certificates.specs.declared.Index.{Index}
 use Rattle.lvs_certificates.specs.declared.ListRead.{ListRead}
-use Rattle.lvs.specs.Answers.{verdictOf}
-use Rattle.lvs.proofs.Calls.{walkable, suggest-refused, suggest-bad-packet, suggest-listed, index-few}
+use Rattle.lvs_edges.proofs.Ordered.{walkable}
+use Rattle.lvs_verdict.specs.Answers.{verdictOf}
+use Rattle.lvs.proofs.Calls.{suggest-refused, suggest-bad-packet, suggest-listed, index-few}
 use Rattle.lvs.proofs.suggest.Statement.{statement}
 use Rattle.lvs.proofs.suggest.Tie as tie
 
@@ -23,21 +24,21 @@ start c = c .before .before .before .before
 accepted : (c : tie.After-enum-told) → verdict (start (c .before .before) .args .model .now) ≡ Verdict.accepted (c .enum-told .given .0 .0)
 accepted c = sym (c .before .before .judge-model .ensures) ∙ ap verdictOf (c .enum-told .given .1)
 
-abbrev judged : tie.After-from → tie.After-enum-told
+abbrev judged : tie.After-row → tie.After-enum-told
 judged c = c .before .before .before
 
-abbrev began : tie.After-from → tie.Start
+abbrev began : tie.After-row → tie.Start
 began c = start (judged c .before .before)
 
-good : (c : tie.After-from) → goodName (rowFrom (began c .args .packet .now) (c .from .given .0 .0)) ≡ nameReading 21 (began c .args .packet .now)
-good c = sym (ap (nameRead (began c .args .packet .now)) (c .from .given .1)) ∙ c .before .before .read-name .ensures
+good : (c : tie.After-row) → goodName (rowFrom (began c .args .packet .now) (c .row .given .0 .0 .start)) ≡ nameReading 21 (began c .args .packet .now)
+good c = read-good (c .before .before .read-name .ensures) (c .row .given .1)
 
-good-packet : (c : tie.After-from) → goodName (rowFrom (began c .args .packet .now) (c .from .given .0 .0)) ≡ packetName (began c .args .packet .now)
+good-packet : (c : tie.After-row) → goodName (rowFrom (began c .args .packet .now) (c .row .given .0 .0 .start)) ≡ packetName (began c .args .packet .now)
 unfolding packetName
 good-packet c = good c
 
 -- the list was read, and what that says
-abbrev named : tie.After-read-list → tie.After-from
+abbrev named : tie.After-read-list → tie.After-row
 named c = c .before .before
 
 abbrev asked : tie.After-read-list → tie.Start
@@ -84,8 +85,8 @@ node-places-requires c κs = let f = named (read (c .before)) in (walkable (bega
 first-allowed-requires : tie.Need-first-allowed-requires
 first-allowed-requires c κs = let t = c .before .before .before in (c .before .node-places .ensures, (good-packet (named (read t)), sym (fit t)))
 
-cast-t21 : tie.Need-cast-t21
-cast-t21 c =
+cast-t22 : tie.Need-cast-t22
+cast-t22 c =
     let r = c .before .before .before in
     let a = began-search r .args in
     let i-is = sym (ap indexOf (c .before .i .given .1)) ∙ r .first-allowed .ensures in
@@ -96,7 +97,7 @@ returns-2 c =
     let r = c .before .before .before in
     let e = r .before in
     let a = start (e .before .before) .args in
-    let bad = sym (ap (nameRead (a .packet .now)) (c .before .number2 .given .1)) ∙ r .read-name .ensures in
+    let bad = read-bad (r .read-name .ensures) (c .before .number2 .given .1) in
     sym (suggest-bad-packet (a .model .now) (a .packet .now) (a .list .now) (accepted e) bad)
 
 returns-3 : tie.Need-returns-3
@@ -133,7 +134,7 @@ suggest-spec =
     node-places-requires
     first-allowed-requires
     (λ c. search needs)
-    cast-t21
+    cast-t22
     (λ c. search needs)
     returns-2
     returns-3
