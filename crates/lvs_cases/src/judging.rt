@@ -5,13 +5,13 @@ use crate::input::Input;
 use crate::output;
 use crate::turn;
 use crate::turn::Turn;
-use lvs::Verdict;
+use lvs_verdict::Verdict;
 
 pub fn answer(input: Input, model: &[u8], out: &mut Buffer, used: usize) -> Turn
     requires { ⌜ (input .end ≤ 65536) × (used ≤ 65536) ⌝ }
     ensures { λ r. ⌜ (r .input .end ≤ 65536) × (r .used ≤ 65536) ⌝ }
 {
-    let at = put_verdict(out, used, lvs::judge_model(model));
+    let at = put_verdict(out, used, lvs_verdict::judge_model(model));
     turn::whole(input, output::put(out, at, b"\n"))
 }
 

@@ -6,7 +6,8 @@
 //
 //     V  model                         accepted NODES | refused NUMBER AT
 //     M  model, packet name, words     match NODE BOUND | no match | refused NUMBER AT, then the words
-//     S  model, packet name, key name  allowed PACKET KEY | not allowed | refused NUMBER AT
+//     S  model, two names, path        allowed PACKET KEY | not allowed | refused NUMBER AT, then the path
+//     P  model, two names, path        accepted | no | refused NUMBER AT
 //     C  model, packet name, list      certificate INDEX | none | refused NUMBER AT
 //     W  numbers, texts, output        written BYTES | refused NUMBER AT, then the output
 //     D  model, numbers, texts         described NUMBERS BYTES | refused NUMBER AT, then the numbers and the texts
@@ -14,10 +15,10 @@
 //
 // AT is a refusal's second number: a Node's index, a byte's place or an entry's index, as docs/format.md, 5.1 has it for each number.
 //
-// Words are binding words of 4 bytes, numbers have 8 (high byte first): each is printed in decimal, with a blank before it. Bytes are printed
-// as one blank and lowercase hexadecimal digits; no bytes as nothing. A name has at most 4,096 bytes, words as many, and every other field
-// 65,536. A field that is too long or holds part of a word or number or anything but one component, a cut case or another letter prints `broken`
-// and ends.
+// The two names are the packet's and the key's. Words are binding words of 4 bytes, a path has words of 2 and numbers have 8 (high byte first): each
+// is printed in decimal, with a blank before it. Bytes are printed as one blank and lowercase hexadecimal digits; no bytes as nothing. A name has
+// at most 4,096 bytes, words and a path as many, and every other field 65,536. A field that is too long or holds part of a word or number or
+// anything but one component, a cut case or another letter prints `broken` and ends.
 ghost use Prim.Native.Nat.{_≤_};
 
 mod comparing;
@@ -26,13 +27,14 @@ mod input;
 mod judging;
 mod matching;
 mod output;
-mod signing;
+mod pairs;
 mod suggesting;
 mod turn;
 mod words;
 mod writing;
 
 use input::Input;
+use pairs::Call;
 use turn::Turn;
 
 // The longest name.
@@ -121,7 +123,8 @@ fn answer_case(
     match letter {
         b'V' => judging::answer(behind, &model[..n], out, used),
         b'M' => matching::answer(space, behind, &model[..n], out, used),
-        b'S' => signing::answer(space, behind, &model[..n], out, used),
+        b'S' => pairs::answer(Call::Sign, space, behind, &model[..n], out, used),
+        b'P' => pairs::answer(Call::Follow, space, behind, &model[..n], out, used),
         b'C' => suggesting::answer(space, behind, &model[..n], texts, out, used),
         b'D' => describing::answer(space, behind, &model[..n], numbers, texts, out, used),
         b'E' => comparing::answer(space, behind, &model[..n], texts, out, used),

@@ -65,6 +65,27 @@ pub fn put_refused(out: &mut Buffer, used: usize, number: u32, at: u32) -> usize
     put_pair(out, used, b"refused ", number as u64, at as u64)
 }
 
+// Each word of a path with a blank before it.
+pub fn put_path(out: &mut Buffer, used: usize, path: &[u16]) -> usize
+    requires { ⌜ used ≤ 65536 ⌝ }
+    ensures { λ r. ⌜ r ≤ 65536 ⌝ }
+{
+    let mut at = used;
+    let mut i = 0;
+    while i < path.len() {
+        at = put_step(out, at, path[i]);
+        i += 1;
+    }
+    at
+}
+
+fn put_step(out: &mut Buffer, used: usize, word: u16) -> usize
+    requires { ⌜ used ≤ 65536 ⌝ }
+    ensures { λ r. ⌜ r ≤ 65536 ⌝ }
+{
+    put_next(out, used, word as u64)
+}
+
 // Each word with a blank before it.
 pub fn put_words(out: &mut Buffer, used: usize, words: &[u32]) -> usize
     requires { ⌜ used ≤ 65536 ⌝ }

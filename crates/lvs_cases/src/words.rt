@@ -1,4 +1,4 @@
-// Fields that are lists: words of 4 bytes and numbers of 8, high byte first.
+// Fields that are lists: words of 4 bytes, paths with words of 2, and numbers of 8, high byte first.
 ghost use Prim.Native.Nat.{_+_, _*_, _≤_, _<_};
 ghost use lib.ListN.{length};
 ghost use Rattle.io.specs.Counts.{Counts};
@@ -23,7 +23,23 @@ pub fn take_words(space: &mut Buffer, input: Input, bytes: &mut [u8], words: &mu
     }
 }
 
-// The same for numbers.
+// The same for a path.
+pub fn take_path(space: &mut Buffer, input: Input, bytes: &mut [u8], path: &mut [u16]) -> Field
+    requires { ⌜ input .end ≤ 65536 ⌝ }
+    ensures { λ r. ⌜ Counts (r .count) (now (path .exit)) × (r .input .end ≤ 65536) ⌝ }
+{
+    let field = input::take_field(space, input, bytes);
+    let n = field.count;
+    let behind = field.input;
+    let count = read_path(&bytes[..n], path);
+    Field {
+        is_whole: field.is_whole && n % 2 == 0,
+        count,
+        input: behind,
+    }
+}
+
+// And for numbers.
 pub fn take_numbers(
     space: &mut Buffer,
     input: Input,
@@ -57,6 +73,19 @@ fn read_words(bytes: &[u8], words: &mut [u32]) -> usize
     n
 }
 
+// The words of a path in bytes, as many as there is room for.
+fn read_path(bytes: &[u8], path: &mut [u16]) -> usize
+    ensures { λ r. ⌜ Counts r (now (path .exit)) ⌝ }
+{
+    let n = least(bytes.len() / 2, path.len());
+    let mut i = 0;
+    while i < n {
+        path[i] = pair_at(bytes, i);
+        i += 1;
+    }
+    n
+}
+
 // The numbers in bytes, as many as there is room for.
 fn read_numbers(bytes: &[u8], numbers: &mut [u64]) -> usize
     ensures { λ r. ⌜ Counts r (now (numbers .exit)) ⌝ }
@@ -83,6 +112,14 @@ fn word_at(bytes: &[u8], i: usize) -> u32
     let high = long(bytes[at]) * 256 + long(bytes[at + 1]);
     let low = long(bytes[at + 2]) * 256 + long(bytes[at + 3]);
     high * 65536 + low
+}
+
+fn pair_at(bytes: &[u8], i: usize) -> u16
+    requires { ⌜ i * 2 + 1 < length (now bytes) ⌝ }
+{
+    let at = i * 2;
+    let word = long(bytes[at]) * 256 + long(bytes[at + 1]);
+    word as u16
 }
 
 fn long(b: u8) -> u32

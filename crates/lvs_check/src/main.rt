@@ -7,7 +7,7 @@ ghost use Rattle.io.specs.Counts.{Counts};
 use libc::STDIN_FILENO;
 use libc::STDOUT_FILENO;
 use lvs::SignAnswer;
-use lvs::Verdict;
+use lvs_verdict::Verdict;
 
 // One byte more than a model may have: of a longer file the library refuses the length.
 const MODEL_BYTES: usize = 32769;
@@ -36,7 +36,7 @@ struct NameBytes {
 fn main() {
     let mut model = [0u8; MODEL_BYTES];
     let n = read_model(&mut model);
-    match lvs::judge_model(&model[..n]) {
+    match lvs_verdict::judge_model(&model[..n]) {
         Verdict::Refused { number, at } => print_refused_model(number, at),
         Verdict::Accepted { nodes } => {
             print_model(nodes);
@@ -87,7 +87,8 @@ fn answer_request(model: &[u8], k: u64) -> bool {
     }
     let n = p.count;
     let m = q.count;
-    print_answer(k, lvs::sign(model, &packet[..n], &key[..m]));
+    let mut path = [0u16; lvs_spec::PATH_WORDS];
+    print_answer(k, lvs::sign(model, &packet[..n], &key[..m], &mut path));
     true
 }
 

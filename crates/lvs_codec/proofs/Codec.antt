@@ -20,8 +20,8 @@ use Rattle.tlv.specs.Bytes.{Bytes}
 use Rattle.lvs_spec.specs.Model.{Model, modelOf}
 use Rattle.lvs_spec.specs.Verdict.{accepted, refused, describes, reading, verdict}
 use Rattle.lvs_spec.specs.Answers.{Refusal}
-use Rattle.lvs.specs.declared.Verdict.{Verdict}
-use Rattle.lvs.specs.declared.Verdict.the-variants as verdicts
+use Rattle.lvs_verdict.specs.declared.Verdict.{Verdict}
+use Rattle.lvs_verdict.specs.declared.Verdict.the-variants as verdicts
 use Rattle.lvs.proofs.Same.{same-verdict}
 use Rattle.lvs.proofs.Demands.{Slice, Judged, judged-is, SameCalls, same-calls}
 use Rattle.lvs_description.specs.Description.{modelBytes, descriptionOf, numbersOf, textsOf}

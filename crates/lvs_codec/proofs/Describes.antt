@@ -8,9 +8,9 @@ use lib.ListN.{length}
 use Rattle.lvs_spec.specs.Model.{Model, modelOf}
 use Rattle.lvs_spec.specs.Verdict.{accepted, verdict}
 use Rattle.lvs_spec.specs.Answers.{plain}
-use Rattle.lvs.specs.Answers.{verdictOf}
-use Rattle.lvs.specs.declared.Verdict.{Verdict}
-use Rattle.lvs.specs.declared.Verdict.the-variants as verdicts
+use Rattle.lvs_verdict.specs.Answers.{verdictOf}
+use Rattle.lvs_verdict.specs.declared.Verdict.{Verdict}
+use Rattle.lvs_verdict.specs.declared.Verdict.the-variants as verdicts
 use Rattle.lvs_description.specs.Description.{numbersOf, textsOf}
 use Rattle.lvs_description.specs.Answers.{DescribeAnswer, DescribeOutcome, described, describeRefused, noDescription}
 use Rattle.lvs_description.specs.Answers.{describedTo, describedAs, describeOutcome}

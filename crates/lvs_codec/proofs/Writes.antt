@@ -15,9 +15,9 @@ use Rattle.lvs_spec.specs.Model.{Model}
 use Rattle.lvs_spec.specs.Verdict.{Verdict as Judged, accepted, refused, reading, verdict}
 use Rattle.lvs_spec.specs.Answers.{plain}
 use Rattle.lvs_spec.proofs.Lists.{clash}
-use Rattle.lvs.specs.Answers.{verdictOf}
-use Rattle.lvs.specs.declared.Verdict.{Verdict}
-use Rattle.lvs.specs.declared.Verdict.the-variants as verdicts
+use Rattle.lvs_verdict.specs.Answers.{verdictOf}
+use Rattle.lvs_verdict.specs.declared.Verdict.{Verdict}
+use Rattle.lvs_verdict.specs.declared.Verdict.the-variants as verdicts
 use Rattle.lvs_description.specs.Description.{modelBytes, descriptionOf}
 use Rattle.lvs_description.specs.Answers.{WriteOutcome, writeRefused, written, writeOutcome, noDescription, shortOutput}
 use Rattle.lvs_description.proofs.Calls.{no-description, refused-bytes, short-output, on-output, writing-is}

@@ -4,8 +4,8 @@ ghost use Prim.Native.Nat.{_≤_};
 ghost use lib.ListN.{length};
 ghost use Rattle.lvs_description.specs.Answers.{writeOutcome, describeOutcome};
 ghost use Rattle.lvs_codec.specs.Answers.{writeAnswerOf, describeAnswerOf, Sized, Answered, AnsweredShort};
-use lvs::Verdict;
 use lvs_describe::Described;
+use lvs_verdict::Verdict;
 use lvs_write::Size;
 
 // Lists that form no description, or that are too short for one.
@@ -83,7 +83,7 @@ fn refuse_short(numbers: &[u64], texts: &[u8], space: &mut [u8]) -> WriteAnswer
     ensures { λ r. ⌜ AnsweredShort (now (numbers .entry)) (now (texts .entry)) (length (now (space .entry))) r ⌝ }
 {
     lvs_write::write_description(numbers, texts, space);
-    match lvs::judge_model(space) {
+    match lvs_verdict::judge_model(space) {
         Verdict::Refused { number, at } => WriteAnswer::Refused { number, at },
         Verdict::Accepted { .. } => WriteAnswer::Refused {
             number: SHORT_OUTPUT,
@@ -100,7 +100,7 @@ fn write_over(numbers: &[u64], texts: &[u8], place: &mut [u8], space: &mut [u8])
 {
     tlv_writer::put_bytes(space, 0, place);
     lvs_write::write_description(numbers, texts, place);
-    match lvs::judge_model(place) {
+    match lvs_verdict::judge_model(place) {
         Verdict::Refused { number, at } => {
             tlv_writer::put_bytes(place, 0, space);
             WriteAnswer::Refused { number, at }
@@ -117,7 +117,7 @@ pub fn describe_model(model: &[u8], numbers: &mut [u64], texts: &mut [u8]) -> De
         describeOutcome (now (model .entry)) (now (numbers .entry)) (now (texts .entry))
         ⌝ }
 {
-    if let Verdict::Refused { number, at } = lvs::judge_model(model) {
+    if let Verdict::Refused { number, at } = lvs_verdict::judge_model(model) {
         return DescribeAnswer::Refused { number, at };
     }
     match lvs_describe::describe(model, numbers, texts) {
