@@ -79,15 +79,26 @@ fn with_names<'a>(
     if !field.is_whole {
         return turn::broken(behind, used);
     }
-    let at = match call {
-        Call::Sign => put_signing(model, packet, key, &mut path[..n], out, used),
-        Call::Follow => put_follow(
-            out,
-            used,
-            lvs_follow::follow(model, packet, key, &path[..n]),
-        ),
-    };
+    let at = put_answer(call, model, packet, key, &mut path[..n], out, used);
     turn::whole(behind, output::put(out, at, b"\n"))
+}
+
+fn put_answer<'a>(
+    call: Call,
+    model: &[u8],
+    packet: &'a [u8],
+    key: &'a [u8],
+    path: &mut [u16],
+    out: &mut Buffer,
+    used: usize,
+) -> usize
+    requires { ⌜ used ≤ 65536 ⌝ }
+    ensures { λ r. ⌜ r ≤ 65536 ⌝ }
+{
+    match call {
+        Call::Sign => put_signing(model, packet, key, path, out, used),
+        Call::Follow => put_follow(out, used, lvs_follow::follow(model, packet, key, path)),
+    }
 }
 
 // The call's answer and the whole path after it.
