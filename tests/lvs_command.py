@@ -4,9 +4,10 @@
 usage: lvs_command.py
 
 Every subcommand, every exit status, every refusal and every error text; the examples in README and in the help texts; what is said of
-malformed models; texts of models, shown and built again; and builds, in a copy of tools/ with another rt. Models are made with
-tests/cases/build.py.
+malformed models, and of paths; texts of models, shown and built again; and builds, in a copy of tools/ with another rt. Models are made
+with tests/cases/build.py.
 """
+import collections
 import concurrent.futures
 import functools
 import json
@@ -25,14 +26,17 @@ from typing import NamedTuple
 ROOT = pathlib.Path(__file__).resolve().parent.parent
 sys.path[:0] = [str(ROOT / "tests/cases"), str(ROOT / "tools")]
 sys.dont_write_bytecode = True
+import crossings  # noqa: E402
 import explanations  # noqa: E402
 import name as names  # noqa: E402
 import texts  # noqa: E402
 import uris  # noqa: E402
 from bench import A, B  # noqa: E402
 from build import *  # noqa: E402, F403
+from certificates import fields  # noqa: E402
 from gaps import FULL  # noqa: E402
-from lvs_command import answers, description, driver, malformed, refusals, text as text_form  # noqa: E402
+from lvs_command import answers, description, driver, errors, follow as following, malformed, path as paths, refusals, text as text_form  # noqa: E402
+from lvs_command.model import Labels  # noqa: E402
 from random_models import canonical, random_models  # noqa: E402
 from run_cases import TABLES, table  # noqa: E402
 from temporary import TUTORIAL_SHARED, with_count  # noqa: E402
@@ -66,6 +70,10 @@ TEMPORARY = tree(
     [(3, must_be("x")), (4, constraint(option(call("$eq", tag(5))), option(value("y")))), ()],
     patterns=1,
 ) + symbol(1, "user") + symbol(2, "_role") + symbol(3, "part") + symbol(4, "_")
+
+ITSELF = model(node(0, signer(0)))  # the empty name is signed by itself
+TWICE = tree([(1,), (1, must_be("x")), (2,)])  # the same component twice, and only x
+ROOMLESS = model(node(0, value_edge(1, "a")), node(1, parent(0)))  # no signer, which takes three bytes
 
 
 def chain(count):
@@ -109,6 +117,10 @@ FILES = {
     "none-named.lvs": with_count(B, 0),
     "shared.lvs": TUTORIAL_SHARED,
     "temporary.lvs": TEMPORARY,
+    "itself.lvs": ITSELF,
+    "twice.lvs": TWICE,
+    "room.lvs": padded(ROOMLESS, 32765),
+    "no-room.lvs": padded(ROOMLESS, 32766),
     "longest.lvs": padded(A, 32768),
     "r1.lvs": padded(A, 32769),
     "r1-driver.lvs": padded(A, 65536),
@@ -153,6 +165,7 @@ REFUSED = {
     31: "refused 31: the buffer for the model is too short",
     32: "refused 32 at entry 2: this entry of the list is no key name: it is malformed, longer than 1,024 bytes, or has more than 32 components",
     33: "refused 33: the list has more than 64 entries",
+    34: "refused 34: the buffer for the path has fewer words than the two names have components",
 }
 
 
@@ -205,7 +218,7 @@ def malformed_runs():
     around = [{"container": "Node", "node": 170, "start": 9252}, *({"container": of, "start": start} for of, start in inner)]
     yield Run(["judge", "--json", "large.lvs"], 2, refused_object(9286, found, around))
     # of the other commands the refusal alone
-    for words in ["match", "r2.lvs", "/"], ["sign", "r2.lvs", "/", "/"], ["sign", "r2.lvs", "-"]:
+    for words in ["match", "r2.lvs", "/"], ["sign", "r2.lvs", "/", "/"], ["sign", "r2.lvs", "-"], ["follow", "r2.lvs", "/", "/", "none"]:
         yield Run(words, 2, REFUSED[2] + "\n")
     of = {"answer": "refused", "number": 2, "place": 605, "meaning": REFUSED[2].partition(": ")[2]}
     yield Run(["match", "--json", "r2.lvs", "/"], 2, json.dumps(of) + "\n")
@@ -340,6 +353,160 @@ lvs: line 8: packet name '0x7', character 4: {digit}
     yield Run(["sign", "longest.lvs", "-"], 1, lines, given="".join(f"/{i} /b\n" for i in range(1, 601)).encode())
     # what a terminal would take as a command, and bytes that are not UTF-8
     yield Run(["sign", "any.lvs", "-"], 1, pair_line(1, "not allowed", "/%1B[2J%FF/é", "/a"), given=b"/\x1b[2J\xff/\xc3\xa9 /a")
+
+
+# paths
+
+ARTICLE_PATH = "0,0,4,0,0,0,0,0,2,0,0,0,0,0"
+
+
+def path_runs():
+    yield Run(["sign", "--path", "example.lvs", ARTICLE, AUTHOR], 0, f"""\
+{ALLOWED}  packet:
+    node 0, edge 0, value: ndn -> node 1
+    node 1, edge 0, value: blog -> node 2
+    node 2, edge 4, pattern tag 2: 100001 -> node 25
+    node 25, edge 0, value: post -> node 26
+    node 26, edge 0, pattern tag 3: 2022 -> node 27
+    node 27, edge 0, pattern tag 4: 1 -> node 28
+  key:
+    node 0, edge 0, value: ndn -> node 1
+    node 1, edge 0, value: blog -> node 2
+    node 2, edge 2, pattern _ (tag 12): author -> node 13
+    node 13, edge 0, pattern tag 2: 100001 -> node 14
+    node 14, edge 0, value: KEY -> node 15
+    node 15, edge 0, pattern _ (tag 13): 1 -> node 16
+    node 16, edge 0, pattern _ (tag 14): 000001 -> node 17
+    node 17, edge 0, pattern _ (tag 15): 1 -> node 18
+  path {ARTICLE_PATH}
+""")
+    # ordinals go on from value to pattern edges; rule names and symbols
+    yield Run(["sign", "named.lvs", "/v=3/x", "/me", "--path"], 0, """\
+allowed: packet at node 3 (#end), key at node 2
+  packet:
+    node 0, edge 0, value: v=3 -> node 1 (#time, #v)
+    node 1, edge 0, pattern part (tag 2): x -> node 3 (#end)
+  key:
+    node 0, edge 1, pattern user (tag 1): me -> node 2
+  path 0,0,1
+""")
+    yield Run(["sign", "--path", "-", "/a/b/a", "/a/%2F/a"], 0, """\
+allowed: packet at node 3, key at node 3
+  packet:
+    node 0, edge 0, pattern user (tag 1): a -> node 1
+    node 1, edge 0, pattern _role (tag 2): b -> node 2
+    node 2, edge 0, pattern _role (tag 2): a -> node 3
+  key:
+    node 0, edge 0, pattern user (tag 1): a -> node 1
+    node 1, edge 0, pattern _role (tag 2): %2F -> node 2
+    node 2, edge 0, pattern _role (tag 2): a -> node 3
+  path 0,0,0,0,0,0
+""", given=TEMPORARY)
+    empty = "  packet: no component, so at node 0\n  key: no component, so at node 0\n  path none\n"
+    yield Run(["sign", "--path", "itself.lvs", "/", "/"], 0, "allowed: packet at node 0, key at node 0\n" + empty)
+    edges = [{"from": 0, "edge": 0, "value": "v=3", "component": "v=3", "to": 1}]
+    edges.append({"from": 1, "edge": 0, "tag": 2, "symbol": "part", "temporary": False, "component": "x", "to": 3})
+    by = [{"from": 0, "edge": 1, "tag": 1, "symbol": "user", "temporary": False, "component": "me", "to": 2}]
+    of = {"answer": "allowed", "packet_node": 3, "key_node": 2, "packet_rules": ["#end"], "key_rules": []}
+    of |= {"path": [0, 0, 1], "packet_edges": edges, "key_edges": by}
+    yield Run(["sign", "--path", "--json", "named.lvs", "/v=3/x", "/me"], 0, json.dumps(of) + "\n")
+    nothing = {"answer": "allowed", "packet_node": 0, "key_node": 0, "packet_rules": [], "key_rules": [], "path": [], "packet_edges": [], "key_edges": []}
+    yield Run(["sign", "--path", "--json", "itself.lvs", "/", "/"], 0, json.dumps(nothing) + "\n")
+    # other answers have none
+    yield Run(["sign", "--path", "b.lvs", "/a", "/b"], 1, "not allowed\n")
+    yield Run(["sign", "--path", "--json", "b.lvs", "/a", "/b"], 1, '{"answer": "not allowed"}\n')
+    yield Run(["sign", "--path", "b.lvs", "/a", "0x"], 2, REFUSED[25] + "\n")
+    # of many pairs
+    given = b"/v=3/x /me\n/v=3/x /a/b\n/v=3/x 0x\n/v=3/x\n"
+    lines = f"{pair_line(1, 'allowed: packet at node 3 (#end), key at node 2', '/v=3/x', '/me')[:-1]}  path 0,0,1\n"
+    lines += pair_line(2, "not allowed", "/v=3/x", "/a/b") + pair_line(3, REFUSED[25], "/v=3/x", "0x")
+    wrong = "1 word, not a packet name and a key name"
+    yield Run(["sign", "--path", "named.lvs", "-"], 3, lines, f"lvs: line 4: {wrong}\n", given)
+    yield Run(["sign", "--path", "--json", "named.lvs", "-"], 0, json.dumps({"line": 1, "packet": "/v=3/x", "key": "/me", **of}) + "\n", given=given[:11])
+
+
+def no_path(text, i):
+    return f"path {text!r}, word {i}: a word is a number of 0 to 65,535 (no word at all is written none)"
+
+
+def followed_paths():
+    """(model's file, packet name, key name, path, why it is not accepted; None where it is)."""
+    yield "example.lvs", ARTICLE, AUTHOR, ARTICLE_PATH, None
+    yield "named.lvs", "/v=3/x", "/me", "0,0,1", None
+    yield "named.lvs", "/v=3/x", "/v=3", "00,000,00000", None
+    yield "temporary.lvs", "/a/b/a", "/a/%2F/a", "0,0,0,0,0,0", None
+    yield "itself.lvs", "/", "/", "none", None
+    yield "none-named.lvs", "/a", "/b", "0,0", None
+    yield "b.lvs", "/a", "/b", "0,0", "component 1 of the key, b, may not cross edge 0 of node 0: the pattern tag 1 is bound to a"
+    other, bound = "/ndn/blog/author/100002/KEY/1/000001/1", "the pattern tag 2 is bound to 100001"
+    yield "example.lvs", ARTICLE, other, ARTICLE_PATH, f"component 4 of the key, 100002, may not cross edge 0 of node 13: {bound}"
+    third = "component 3 of the packet, 100001, may not cross edge"
+    key_third = "component 3 of the key, author,"
+    for path, why in (
+        ("0,0,3,0,0,0,0,0,2,0,0,0,0,0", f"{third} 3 of node 2: the constraints of the pattern _ (tag 16) do not hold"),
+        ("0,0,0,0,0,0,0,0,2,0,0,0,0,0", f'{third} 0 of node 2: it is for the value "KEY"'),
+        ("1,0,4,0,0,0,0,0,2,0,0,0,0,0", "component 1 of the packet, ndn, has no edge 1 to cross: node 0 has 1 edge"),
+        ("0,0,4,0,0,65535,0,0,2,0,0,0,0,0", "component 6 of the packet, 1, has no edge 65535 to cross: node 27 has 1 edge"),
+        ("0,0,4,0,0,0,0,0,5,0,0,0,0,0", f"{key_third} has no edge 5 to cross: node 2 has 5 edges"),
+        ("0,0,4,0,0,0,0,0,1,0,0,0,0,0", f"{key_third} may not cross edge 1 of node 2: the constraints of the pattern _ (tag 8) do not hold"),
+        ("0,0,4,0,0,0,0,0,4,0,0,0,0,0", f"{key_third} may not cross edge 4 of node 2: {bound}"),
+        ("0,0,4,0,0,0,0,0,3,0,0,0,0,0", "every edge may be crossed, but node 28 does not list node 24 as a signer"),
+        ("0,0,4,0,0,0,0,0,2,0,0,0,0", "the path has 13 words, and the two names have 14 components"),
+        (ARTICLE_PATH + ",0", "the path has 15 words, and the two names have 14 components"),
+        ("none", "the path has 0 words, and the two names have 14 components"),
+        ("9", "the path has 1 word, and the two names have 14 components"),
+        ("0" + ",0" * 2047, "the path has 2048 words, and the two names have 14 components"),
+        ("0" + ",0" * 2048, "the path has 2049 words, and the two names have 14 components"),
+        (ARTICLE_PATH + ",65535" * 9000, "the path has 9014 words, and the two names have 14 components"),
+    ):
+        yield "example.lvs", ARTICLE, AUTHOR, path, why
+    why = "every edge may be crossed, but node 3 (#end) does not list node 0 (#top) as a signer"
+    yield "named.lvs", "/v=3/x", "/", "0,0", why
+    yield "named.lvs", "/v=3/x", "/me", "0,0,0", 'component 1 of the key, me, may not cross edge 0 of node 0: it is for the value "v=3"'
+    why = "component 2 of the packet, y, may not cross edge 0 of node 1: the constraints of the pattern part (tag 2) do not hold"
+    yield "named.lvs", "/v=3/y", "/me", "0,0,1", why
+    why = "component 2 of the packet, a, may not cross edge 0 of node 2: the constraints of the pattern _part (tag 3) do not hold"
+    yield "named.lvs", "/me/a", "/", "1,0", why
+    yield "named.lvs", "/v=3/x/y", "/", "0,0,0", "component 3 of the packet, y, has no edge 0 to cross: node 3 has 0 edges"
+    why = "component 1 of the key, b, may not cross edge 0 of node 0: the pattern user (tag 1) is bound to a"
+    yield "temporary.lvs", "/a/b/a", "/b/b/a", "0,0,0,0,0,0", why
+    yield "a.lvs", "/", "/", "none", "every edge may be crossed, but node 0 does not list node 0 as a signer"
+    yield "a.lvs", "/", "/", "0", "the path has 1 word, and the two names have 0 components"
+    yield "a.lvs", "/", "/%00", "none", "the path has 0 words, and the two names have 1 component"
+    yield "twice.lvs", "/x/x", "/x/x", "0,0,0,0", None
+    twice = "component 2 of the packet, a, may not cross edge 0 of node 1"
+    yield "twice.lvs", "/a/a", "/", "0,0", f"{twice}: the constraints of the pattern tag 1 do not hold"
+    yield "twice.lvs", "/x/a", "/", "0,0", f"{twice}: the pattern tag 1 is bound to x"
+    # with a signer this model is as long as can be
+    yield "room.lvs", "/b", "/", "0", 'component 1 of the packet, b, may not cross edge 0 of node 0: it is for the value "a"'
+
+
+def follow_runs():
+    """Some of these paths; check_paths has all of them, without a process for each."""
+    for *words, why in list(followed_paths())[::3]:
+        yield Run(["follow", *words], 1 if why else 0, f"no\n  {why}\n" if why else "accepted\n")
+    yield Run(["follow", "-", ARTICLE, "0x" + names.name(AUTHOR).hex(), ARTICLE_PATH], 0, "accepted\n", given=EXAMPLE)
+    yield Run(["follow", "--json", "b.lvs", "/a", "/a", "0,0"], 0, '{"answer": "accepted"}\n')
+    why = "component 1 of the key, b, may not cross edge 0 of node 0: the pattern tag 1 is bound to a"
+    yield Run(["follow", "--json", "b.lvs", "/a", "/b", "0,0"], 1, json.dumps({"answer": "no", "why": why}) + "\n")
+    # with a signer this model is too long
+    yield Run(["follow", "no-room.lvs", "/b", "/", "0"], 1, "no\n")
+    yield Run(["follow", "--json", "no-room.lvs", "/b", "/", "0"], 1, '{"answer": "no", "why": null}\n')
+    yield from refused_path_runs()
+
+
+def refused_path_runs():
+    """Model and names are tested as ever, and before the path."""
+    for number in 1, 7, 12:
+        yield Run(["follow", f"r{number}.lvs", "0x", "0x", "0,0"], 2, REFUSED[number] + "\n")
+    yield Run(["follow", "r1-far.lvs", "/", "/", "none"], 2, REFUSED[1] + "\n")
+    for i, (text, number) in enumerate(bad_names()):
+        path = ("none", "0,0", "1" + ",65535" * 3000)[i % 3]
+        yield Run(["follow", "example.lvs", text, "0x", path], 2, REFUSED[number] + "\n")
+        if i % 2:
+            yield Run(["follow", "example.lvs", ARTICLE, text, path], 2, REFUSED[number + 3] + "\n")
+    of = {"answer": "refused", "number": 25, "node": 0, "meaning": REFUSED[25].partition(": ")[2]}
+    yield Run(["follow", "--json", "a.lvs", "/", "0x", "none"], 2, json.dumps(of) + "\n")
 
 
 # lists of certificates
@@ -815,14 +982,16 @@ def check_files(folder):
     check("and shown", run(["show", "new.lvs"], place), (0, B_TEXT, ""))
 
 
+@functools.lru_cache
+def run_cases():
+    return [case for name in TABLES for _, case, _ in table(name)]
+
+
 def all_models():
     """Models of any kind: the examples', those of the run cases, with components of every type and byte, and random ones."""
     yield from (A, B, EXAMPLE, NAMED, CYCLE, ANY, chain(256), many_numbers(FITTING))
     yield from ((ROOT / f"tests/models/{name}.lvs").read_bytes() for name in ("bench_a", "bench_b"))
-    for name in TABLES:
-        for _, case, _ in table(name):
-            if case[:1] != b"W":
-                yield case[5 : 5 + int.from_bytes(case[1:5], "big")]
+    yield from (next(fields(case)) for case in run_cases() if case[:1] != b"W")
     values = [b"", b".", b"...", bytes(range(256)), bytes(32), bytes(8), bytes(9), b"\0\1", b"//", b"# x", b"to", b"a,b(c)"]
     values += (bytes([i]) for i in range(256))
     for typ in (1, 2, 7, 8, 50, 52, 54, 56, 58, 252, 253, 65535):
@@ -862,6 +1031,14 @@ def error_runs():
     yield Run(["sign", "a.lvs", "/a"], 3, "", f"lvs sign: the following arguments are required: KEY {sign_see}\n")
     yield Run(["sign", "a.lvs", "-", "/a"], 3, "", f"lvs sign: - takes pairs from standard input, so KEY cannot be given {sign_see}\n")
     yield Run(["sign", "-", "-"], 3, "", f"lvs sign: standard input has either the model or the pairs {sign_see}\n")
+    follow_see = "(see lvs follow --help)"
+    yield Run(["follow", "a.lvs"], 3, "", f"lvs follow: the following arguments are required: PACKET, KEY, PATH {follow_see}\n")
+    yield Run(["follow", "a.lvs", "/", "/"], 3, "", f"lvs follow: the following arguments are required: PATH {follow_see}\n")
+    yield Run(["follow", "a.lvs", "/", "/", "0", "1"], 3, "", f"lvs: unrecognized arguments: 1 {see}\n")
+    yield Run(["follow", "a.lvs", "a", "/", "x"], 3, "", "lvs: packet name 'a', character 1: a name begins with /\n")
+    yield Run(["follow", "a.lvs", "/", "a", "x"], 3, "", "lvs: key name 'a', character 1: a name begins with /\n")
+    for path, i in ("", 1), ("0,x", 2), ("-1", 1):
+        yield Run(["follow", "a.lvs", "/", "/", path], 3, "", f"lvs: {no_path(path, i)}\n")
     suggest_see = "(see lvs suggest --help)"
     yield Run(["suggest", "a.lvs"], 3, "", f"lvs suggest: the following arguments are required: PACKET, NAMES-FILE {suggest_see}\n")
     yield Run(["suggest", "a.lvs", "/a"], 3, "", f"lvs suggest: the following arguments are required: NAMES-FILE {suggest_see}\n")
@@ -875,7 +1052,7 @@ def error_runs():
     yield Run(["judge", "a.lvs", "b.lvs"], 3, "", f"lvs: unrecognized arguments: b.lvs {see}\n")
     yield Run(["judge", "--jso", "a.lvs"], 3, "", f"lvs: unrecognized arguments: --jso {see}\n")
     yield Run(["show"], 3, "", "lvs show: the following arguments are required: MODEL (see lvs show --help)\n")
-    for words in (["judge"], ["match", "/"], ["sign", "/", "/"], ["sign", "-"], ["suggest", "/", "-"], ["tree"], ["show"]):
+    for words in (["judge"], ["match", "/"], ["sign", "/", "/"], ["sign", "-"], ["follow", "/", "/", "0"], ["suggest", "/", "-"], ["tree"], ["show"]):
         for file, why in ("none.lvs", "No such file or directory"), (".", "Is a directory"), ("a.lvs/b", "Not a directory"):
             yield Run([words[0], file, *words[1:]], 3, "", f"lvs: cannot read the model {file!r}: {why}\n")
     types = "1 to 65535, or sha256digest, params-sha256, seg, off, v, t, seq (= in a value is %3D)"
@@ -930,7 +1107,7 @@ def run(words, folder, given=b"", command=COMMAND, **how):
 
 def check_runs(folder):
     lists = suggest_runs, refused_list_runs, long_list_runs, list_mistake_runs
-    parts = judge_runs, malformed_runs, match_runs, sign_runs, batch_runs, *lists, tree_runs, show_runs, error_runs
+    parts = judge_runs, malformed_runs, match_runs, sign_runs, batch_runs, path_runs, follow_runs, *lists, tree_runs, show_runs, error_runs
     runs = [one for part in parts for one in part()]
     with concurrent.futures.ThreadPoolExecutor(os.cpu_count()) as pool:
         found = pool.map(lambda one: run(one.words, folder, one.given), runs)
@@ -1001,6 +1178,128 @@ def check_line(of, place, is_explained=False):
     check(f"the line of {of.hex()} at {place}", read_line(line), line_of(of, place, why.end))
     if is_explained:
         check(f"an explanation of {of.hex()} at {place}", (len(words), malformed.UNEXPLAINED in words[0]), (2, False))
+
+
+class Followed:
+    """A path that is followed, by a model and its description, two names and words; and what is wrong with it."""
+
+    def __init__(self, of, model_of, packet, key, path):
+        self.model, self.described, self.packet, self.key, self.path = of, model_of, packet, key, path
+        self.fault = crossings.first_fault(model_of, crossings.components(packet), crossings.components(key), path)
+
+    def changed(self, *path):
+        return Followed(self.model, self.described, self.packet, self.key, path)
+
+    def case(self):
+        return driver.follow_case(self.model, self.packet, self.key, self.path)
+
+
+def described(models):
+    """The description of each model, by its bytes."""
+    models = list(dict.fromkeys(models))
+    return {of: description.from_lists(one.numbers, one.texts) for of, one in zip(models, driver.ask(list(map(driver.describe_case, models))))}
+
+
+def allowed_pairs():
+    """(model, packet name, key name, answer) of each allowed pair of the run cases and of the example."""
+    pairs = [tuple(fields(case))[:3] for case in run_cases() if case[:1] in b"SP"]
+    pairs += ((EXAMPLE, names.name(packet), names.name(key)) for packet, key in names.pairs(REQUESTS.splitlines()))
+    pairs = list(dict.fromkeys(pairs))
+    return [(*of, answer) for of, answer in zip(pairs, driver.ask([driver.sign_case(*of) for of in pairs])) if isinstance(answer, answers.Allowed)]
+
+
+def printed_paths():
+    """The path of each allowed pair as `lvs sign --path` prints it, read as `lvs follow` does; and the same with one word changed."""
+    chance, pairs = random.Random(0), allowed_pairs()
+    check("how many pairs are allowed", len(pairs) > 500, True)
+    of_models = described(of for of, *_ in pairs)
+    for of, packet, key, answer in pairs:
+        *_, line = paths.AllowedPath(answer, Labels(of), packet, key).lines()
+        one = Followed(of, of_models[of], packet, key, paths.read_path(line.removeprefix("  path ")))
+        check(f"the path {line} of {of.hex()}"[:200], one.fault, None)
+        yield one
+        for i in chance.sample(range(len(one.path)), min(2, len(one.path))):
+            other = chance.choice([word for word in (0, 1, 2, one.path[i] + 1, 65535) if word != one.path[i]])
+            yield one.changed(*one.path[:i], other, *one.path[i + 1 :])
+        yield one.changed(*one.path, 0)
+        yield Followed(of, of_models[of], key, packet, one.path)
+
+
+def random_paths(count):
+    """Names and paths through random models, each model with the signer that the path leads to, or as it was."""
+    chance = random.Random(0)
+    for of, model_of in described(random_models(count, seed="paths")).items():
+        for _ in range(10):
+            packet, path, at = crossings.walked(model_of, chance)
+            key, more, by = crossings.walked(model_of, chance)
+            path = path + more if chance.random() < 0.7 else crossings.changed(path + more, chance)
+            begun = crossings.name_of(packet), crossings.name_of(key)
+            if max(map(len, begun)) <= 1024:
+                signed = (of, model_of) if chance.random() < 0.2 else (following.Unsigned(of).signed(at, by), crossings.signed(model_of, at, by))
+                yield Followed(*signed, *begun, path)
+
+
+def check_paths():
+    """What becomes of paths, without a process for each."""
+    check_known_paths()
+    check_many_paths()
+    wrong = ("0,,1", 2), ("0,", 2), (",0", 1), ("0,65536", 2), ("0, 1", 2), ("0 1", 1), ("²", 1), ("+1", 1), ("0,none", 2), ("9" * 5000, 1)
+    for path, i in wrong:
+        check(f"the path {path}"[:100], failure(paths.read_path, path), no_path(path, i))
+
+
+def failure(call, *words):
+    """The text of the Failure with which a call ends."""
+    try:
+        return call(*words)
+    except errors.Failure as fault:
+        return str(fault)
+
+
+def check_known_paths():
+    for file, packet, key, path, why in followed_paths():
+        words = FILES[file], names.name(packet), names.name(key), paths.read_path(path)
+        doubt = following.Doubt(*words)
+        answer, *said = driver.ask([driver.follow_case(*words), *(doubt.cases if why else [])])
+        found = answer.answer, why and doubt.words(said)
+        check(f"{path} of {packet} by {key} in {file}"[:200], found, ("no" if why else "accepted", why))
+
+
+def check_many_paths():
+    followed = [*printed_paths(), *random_paths(150)]
+    kinds = collections.Counter(of.fault and of.fault[0] for of in followed)
+    check("how often each thing is wrong, or nothing", (len(kinds), min(kinds.values()) >= 60), (7, True))
+    for of, answer in zip(followed, driver.ask(list(map(Followed.case, followed)))):
+        check(f"{of.path} in {of.model.hex()}"[:200], answer.answer, "no" if of.fault else "accepted")
+    refused = [of for of in followed if of.fault]
+    doubts = [following.Doubt(of.model, of.packet, of.key, of.path) for of in refused]
+    said = iter(driver.ask([case for doubt in doubts for case in doubt.cases]))
+    for of, doubt in zip(refused, doubts):
+        words, (begin, end) = doubt.words([next(said) for _ in doubt.cases]), words_of_fault(of)
+        is_right = words is not None and words.startswith(begin) and words.endswith(end)
+        check(f"why {of.path} is no path in {of.model.hex()}: {words}"[:300], is_right, True)
+
+
+def words_of_fault(of):
+    """How the line that says why begins and ends."""
+    wrong, at, i = of.fault
+    packet, key = crossings.components(of.packet), crossings.components(of.key)
+    if wrong == crossings.COUNT:
+        return f"the path has {len(of.path)} word", f" {answers.counted(len(packet) + len(key), 'component')}"
+    if wrong == crossings.SIGNER:
+        return f"every edge may be crossed, but node {at}", " as a signer"
+    place = f"component {i + 1} of the packet" if i < len(packet) else f"component {i - len(packet) + 1} of the key"
+    begin = f"{place}, {text_form.component_text([*packet, *key][i])},"
+    if wrong == crossings.NO_EDGE:
+        count = len(crossings.edges(of.described.nodes[at]))
+        return f"{begin} has no edge {of.path[i]} to cross: node {at} ", f"has {answers.counted(count, 'edge')}"
+    reasons = {
+        crossings.VALUE: ('it is for the value "', '"'),
+        crossings.BOUND: ("the pattern ", ""),
+        crossings.CONSTRAINTS: ("the constraints of the pattern ", " do not hold"),
+    }
+    why, end = reasons[wrong]
+    return f"{begin} may not cross edge {of.path[i]} of node {at}: {why}", end
 
 
 def check_uris():
@@ -1104,7 +1403,7 @@ def examples(text):
 
 def check_examples():
     help_texts = {"lvs --help": ""}
-    for command in ("judge", "match", "sign", "suggest", "tree", "show", "build"):
+    for command in ("judge", "match", "sign", "follow", "suggest", "tree", "show", "build"):
         help_texts[f"lvs {command} --help"] = "example:"
     place = {**os.environ, "PATH": f"{ROOT / 'tools'}:{os.environ['PATH']}"}
     readme = (ROOT / "README.md").read_text().partition("## Run it")[2].partition("\n## ")[0]
@@ -1219,6 +1518,22 @@ def check_builds(folder):
         programmed(program, f"cat >/dev/null; echo {line}")
         text = f"lvs: lvs_cases takes only 65,536 bytes of this input, and answers {line!r}\n"
         check(f"{line} of a cut list", answered(["suggest", "b.lvs", "/a", "-"], b"/" + b"a" * 65536), (3, "", text))
+    words = " ".join(["0"] * 63)
+    sign_path, follow_path = ["sign", "--path", "b.lvs", "/a", "/a"], ["follow", "b.lvs", "/a", "/a", "0,0"]
+    for asked, line, text in (
+        (["judge", "b.lvs"], "accepted", "printed 'accepted', which is no answer"),
+        (sign_path, "allowed 1 1", "printed 'allowed 1 1', which is no answer"),
+        (sign_path, f"allowed 1 1 {words}", f"printed {f'allowed 1 1 {words}'[:60]!r}, which is no answer"),
+        (sign_path, f"allowed 1 1 7 {words}", "answers with the path 7,0, which does not lead to its nodes"),
+        (sign_path, f"allowed 1 0 0 {words}", "answers with the path 0,0, which does not lead to its nodes"),
+        (follow_path, "accepted 2", "printed 'accepted 2', which is no answer"),
+        (follow_path, "not allowed", "printed 'not allowed', which is no answer"),
+        (follow_path, "no match", "printed 'no match', which is no answer"),
+    ):
+        programmed(program, f"cat >/dev/null; echo {line}")
+        check(f"the line {line}", answered(asked), (3, "", f"lvs: lvs_cases {text}\n"))
+    programmed(program, f"cat >/dev/null; echo refused 34 0 {words}")
+    check("too few words for a path", answered(sign_path), (2, REFUSED[34] + "\n", ""))
     programmed(program, "head -c 1 | grep -q C && echo refused 32 0 || echo not allowed")
     text = "lvs: lvs_cases refuses line 1 of the list, but takes it as a key name\n"
     check("an entry refused without a reason", answered(["suggest", "b.lvs", "/a", "-"], b"/a"), (3, "", text))
@@ -1244,6 +1559,7 @@ def main_checks():
     check_uris()
     check_elements()
     check_explanations()
+    check_paths()
     check_round_trips()
     check_fault()
     check_examples()

@@ -16,7 +16,7 @@ import time
 
 ROOT = pathlib.Path(__file__).resolve().parent.parent
 CASES = ROOT / "tests/cases"
-TABLES = ("bench", "limits", "refusals", "gaps", "places", "document_003", "walks", "writing", "certificates", "temporary", "components")
+TABLES = ("bench", "limits", "refusals", "gaps", "places", "document_003", "walks", "writing", "certificates", "temporary", "components", "paths")
 sys.path.insert(0, str(CASES))
 sys.dont_write_bytecode = True
 
@@ -94,8 +94,9 @@ def driver_runs(program):
     driver = importlib.import_module("driver")
     for what, given, expected in driver.runs():
         yield what, run(program, given, CASES), expected
-    given = driver.GOOD + driver.WORDS + driver.WRITE + driver.DESCRIBE + driver.SUGGEST + driver.COMPARE
-    expected = driver.LINE + driver.WORDS_LINE + driver.WRITE_LINE + driver.DESCRIBE_LINE + driver.SUGGEST_LINE + driver.COMPARE_LINE
+    letters = "GOOD", "WORDS", "WRITE", "DESCRIBE", "SUGGEST", "COMPARE", "SIGN", "FOLLOW"
+    given = b"".join(getattr(driver, each) for each in letters)
+    expected = "".join(getattr(driver, "LINE" if each == "GOOD" else f"{each}_LINE") for each in letters)
     yield "in pieces", run_in_pieces(program, given, CASES), expected
 
 

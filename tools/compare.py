@@ -6,17 +6,20 @@ usage: compare.py [CASES [SEED]]
        compare.py --certificates [CASES [SEED]]
        compare.py --components [CASES [SEED]]
        compare.py --damaged [CASES [SEED]]
+       compare.py --paths [CASES [SEED]]
 
 CASES cases (default 100,000) in batches of 20,000, one seed each, beginning with SEED (default 1). In each batch
-- lvs_cases must print the reference's line for every case;
+- lvs_cases must print the reference's line for every case, with every lent word after the call;
 - lvs_cases must print the reference's line for half as many cases of gen_descriptions, which write (W) and describe (D) models,
-  for a quarter as many of gen_certificates, which look for a certificate in a list (C), and of gen_components, which compare two
-  components (E), and for half as many of gen_damaged, whose models are damaged, so that most are refused with 2 at some place;
-- lvs_check must print the reference's lines for the first signing cases, given the model as its file;
+  for a quarter as many of gen_certificates, which look for a certificate in a list (C), of gen_components, which compare two
+  components (E), and of gen_paths, most of which follow a path (P) and some of which ask for one (S), and for half as many of
+  gen_damaged, whose models are damaged, so that most are refused with 2 at some place;
+- lvs_check must print the reference's lines for the first signing cases, given the model as its file; it has room for every path,
+  so the reference is asked again with room enough;
 - the cases of gap_cases (optional and critical elements in gaps, other versions) must get their lines.
 With --descriptions only cases of gen_descriptions are compared, CASES of them in batches of 10,000, one seed each, and with --damaged
-only those of gen_damaged; with --certificates only those of gen_certificates, and with --components only those of gen_components, in
-batches of 5,000.
+only those of gen_damaged; with --certificates only those of gen_certificates, with --components only those of gen_components, and
+with --paths only those of gen_paths, in batches of 5,000.
 A difference is printed with its program, seed and index, and e.g. `gen_cases SEED 1 INDEX` writes that case alone.
 The last lines say how often each answer came up, with the letter before those that are not of gen_cases, then how many different
 places refusal 2 named in each kind of cases.
@@ -35,10 +38,11 @@ OURS = ROOT / "target/bin"
 REFERENCE = ROOT / "reference/target/release"
 BATCH = 20_000
 # what follows the cases of gen_cases in a batch: the program gen_NAME and how many of its cases; --NAME compares them alone
-MORE = {"descriptions": BATCH // 2, "certificates": BATCH // 4, "components": BATCH // 4, "damaged": BATCH // 2}
+MORE = {"descriptions": BATCH // 2, "certificates": BATCH // 4, "components": BATCH // 4, "damaged": BATCH // 2, "paths": BATCH // 4}
 RUNS = 100  # of lvs_check, in a batch
 LIMIT = 2048  # lvs_check's, for the length of a name
-FIELDS = {b"V": 1, b"M": 3, b"S": 3, b"W": 3, b"D": 3, b"C": 3, b"E": 2}
+ROOM = bytes(2 * 64)  # of a path: a word for each component of two names
+FIELDS = {b"V": 1, b"M": 3, b"S": 4, b"P": 4, b"W": 3, b"D": 3, b"C": 3, b"E": 2}
 
 
 def build_reference():
@@ -82,24 +86,34 @@ def checker_lines(verdict, signing, names):
     word, number, *node = verdict.split()
     if word == "refused":
         return [f"model refused {number} at {node[0]}"]
-    answer = "broken" if any(len(name) > LIMIT for name in names) else signing
-    if answer.startswith("refused"):
-        answer = " ".join(answer.split()[:2])
+    answer = "broken" if any(len(name) > LIMIT for name in names) else without_rest(signing)
     return [f"model {number} nodes", f"1 {answer}"]
 
 
-def compare_checker(file, expected, folder):
+def without_rest(signing):
+    """A signing answer without what lvs_check doesn't print: the words of the path, and a refusal's second number."""
+    words = signing.split()
+    return " ".join(words[:3] if words[0] == "allowed" else words[:2])
+
+
+def with_room(model, packet, key):
+    """The reference's verdict, and its answer to the signing call when any path has room."""
+    signing = b"S" + field(model) + field(packet) + field(key) + field(ROOM)
+    return lines_of(REFERENCE / "answer_cases", b"V" + field(model) + signing)
+
+
+def compare_checker(file, folder):
     """Runs lvs_check on the first signing cases. Answers how many it ran, and the differences."""
     signing = ((index, fields) for index, (letter, fields) in enumerate(cases_of(file)) if letter == b"S")
     wrong = ran = 0
-    for index, (model, packet, key) in itertools.islice(signing, RUNS):
+    for index, (model, packet, key, _) in itertools.islice(signing, RUNS):
         (folder / "model.lvs").write_bytes(model)
-        verdict = lines_of(REFERENCE / "answer_cases", b"V" + field(model))[0]
+        verdict, answer = with_room(model, packet, key)
         ours = lines_of(OURS / "lvs_check", b"\x4d\x4b" + request(packet) + request(key), cwd=folder)
         ran += 1
-        if ours != checker_lines(verdict, expected[index], (packet, key)):
+        if ours != checker_lines(verdict, answer, (packet, key)):
             wrong += 1
-            print(f"  lvs_check, case {index}: {ours}, the reference: {verdict}, {expected[index]}")
+            print(f"  lvs_check, case {index}: {ours}, the reference: {verdict}, {without_rest(answer)}")
     return ran, wrong
 
 
@@ -167,7 +181,7 @@ def compare_batch(seed, count, folder, tally):
     for name, in_batch in MORE.items():
         made[f"of {name}"], bad = compare_more(name, seed, count * in_batch // BATCH, folder, tally)
         wrong += bad
-    made["runs of lvs_check"], bad = compare_checker(cases, expected, folder)
+    made["runs of lvs_check"], bad = compare_checker(cases, folder)
     generate(gaps, "gap_cases", seed, count // 100, lines)
     demanded = lines.read_text().splitlines()
     made["cases of demand 3"] = len(demanded)

@@ -5,9 +5,9 @@ use std::ops::ControlFlow;
 
 use crate::description::NoDescription;
 use crate::model::Model;
-use crate::names::{Name, PlacedComponent, Role};
+use crate::names::{Name, Role};
 use crate::verdict::{load, Reason, Refusal, MAX_TAG};
-use crate::walk::{visit_matches, Bindings};
+use crate::walk::{visit_matches, Bindings, Trace};
 
 /// The words that a binding buffer needs: two for each Tag.
 pub const BINDING_WORDS: usize = 2 * MAX_TAG as usize;
@@ -71,12 +71,12 @@ fn try_match(model: &[u8], name: &[u8], buffer: &mut [u32]) -> Result<MatchAnswe
     let first = visit_matches(
         &model,
         &name.components,
-        &mut Bindings::default(),
-        &mut |node, bindings| {
-            write_bindings(bindings, words);
+        &mut Trace::default(),
+        &mut |node, trace| {
+            write_bindings(&trace.bindings, words);
             ControlFlow::Break(MatchAnswer::Match {
                 node,
-                bound: bindings.count(),
+                bound: trace.bindings.count(),
             })
         },
     );
@@ -90,50 +90,78 @@ fn write_bindings(bindings: &Bindings, words: &mut [u32]) {
     }
 }
 
-/// Whether a key of this name may sign a packet of that name.
-pub fn sign(model: &[u8], packet: &[u8], key: &[u8]) -> SignAnswer {
-    try_sign(model, packet, key).unwrap_or_else(SignAnswer::Refused)
+/// Whether a key of this name may sign a packet of that name. If it may, the
+/// first words hold the path, one for each component of the packet's name, then
+/// one for each of the key's; those behind are kept, and otherwise all are.
+pub fn sign(model: &[u8], packet: &[u8], key: &[u8], path: &mut [u16]) -> SignAnswer {
+    try_sign(model, packet, key, path).unwrap_or_else(SignAnswer::Refused)
 }
 
-fn try_sign(model: &[u8], packet: &[u8], key: &[u8]) -> Result<SignAnswer, Refusal> {
+fn try_sign(
+    model: &[u8],
+    packet: &[u8],
+    key: &[u8],
+    path: &mut [u16],
+) -> Result<SignAnswer, Refusal> {
     let model = load(model)?;
     let packet = Name::load(packet, Role::Packet)?;
     let key = Name::load(key, Role::Key)?;
-    Ok(sign_loaded(&model, &packet, &key))
+    let words = path
+        .get_mut(..packet.components.len() + key.components.len())
+        .ok_or(Reason::PathTooShort)?;
+    let Some(pair) = first_allowed(&model, &packet, &key) else {
+        return Ok(SignAnswer::NotAllowed);
+    };
+    words.copy_from_slice(&pair.path);
+    Ok(SignAnswer::Allowed {
+        packet: pair.packet,
+        key: pair.key,
+    })
 }
 
-/// The signing answer for inputs that have been tested.
-pub fn sign_loaded<'n>(model: &Model, packet: &Name<'n>, key: &Name<'n>) -> SignAnswer {
-    let first = visit_matches(
-        model,
-        &packet.components,
-        &mut Bindings::default(),
-        &mut |packet_node, bindings| {
-            let signers = &model.nodes[packet_node].signers;
-            first_signer(model, &key.components, bindings, signers).map_break(|key_node| {
-                SignAnswer::Allowed {
-                    packet: packet_node,
-                    key: key_node,
-                }
-            })
-        },
-    );
-    first.break_value().unwrap_or(SignAnswer::NotAllowed)
+/// A match of a packet, with one of a key under its bindings.
+#[derive(Clone, Debug, PartialEq, Eq)]
+pub struct Pair {
+    /// The nodes that are matched.
+    pub packet: usize,
+    pub key: usize,
+    /// The ordinals of the edges crossed, the packet's and then the key's.
+    pub path: Vec<u16>,
 }
 
-/// The first match of the key, under the packet's bindings, that is a signer.
-fn first_signer<'n>(
-    model: &Model,
-    key: &[PlacedComponent<'n>],
-    bindings: &mut Bindings<'n>,
-    signers: &[u64],
-) -> ControlFlow<usize> {
-    visit_matches(model, key, bindings, &mut |node, _| {
-        if signers.contains(&(node as u64)) {
-            ControlFlow::Break(node)
+impl Pair {
+    /// Whether the packet's node lists the key's among its signers.
+    pub fn is_allowed(&self, model: &Model) -> bool {
+        let signers = &model.nodes[self.packet].signers;
+        signers.contains(&(self.key as u64))
+    }
+}
+
+/// The first pair that is allowed, for inputs that have been tested.
+pub fn first_allowed<'n>(model: &Model, packet: &Name<'n>, key: &Name<'n>) -> Option<Pair> {
+    let first = visit_pairs(model, packet, key, &mut |pair| {
+        if pair.is_allowed(model) {
+            ControlFlow::Break(pair)
         } else {
             ControlFlow::Continue(())
         }
+    });
+    first.break_value()
+}
+
+/// Visits all pairs in their order, allowed or not, while the visitor says so.
+pub fn visit_pairs<'n, T>(
+    model: &Model,
+    packet: &Name<'n>,
+    key: &Name<'n>,
+    visit: &mut impl FnMut(Pair) -> ControlFlow<T>,
+) -> ControlFlow<T> {
+    let trace = &mut Trace::default();
+    visit_matches(model, &packet.components, trace, &mut |packet, trace| {
+        visit_matches(model, &key.components, trace, &mut |key, trace| {
+            let path = trace.path.clone();
+            visit(Pair { packet, key, path })
+        })
     })
 }
 

@@ -10,13 +10,15 @@ use std::io::{self, Read, Write};
 use crate::elements::Part;
 use crate::names::{single_component, OwnedComponent};
 use crate::{
-    compare_components, describe, find_certificate, match_name, sign, verdict, write_model,
+    compare_components, describe, find_certificate, follow, match_name, sign, verdict, write_model,
 };
 
 /// The longest model, name and binding buffer in a case.
 pub const MAX_MODEL_FIELD: usize = 65_536;
 pub const MAX_NAME_FIELD: usize = 4_096;
 pub const MAX_WORDS: usize = 1_024;
+/// The longest path in a case.
+pub const MAX_PATH_WORDS: usize = 2_048;
 /// The longest lists of a description and the longest output in a case.
 pub const MAX_NUMBERS: usize = 8_192;
 pub const MAX_TEXTS_FIELD: usize = 65_536;
@@ -41,6 +43,13 @@ pub enum Case {
         model: Vec<u8>,
         packet: Vec<u8>,
         key: Vec<u8>,
+        path: Vec<u16>,
+    },
+    Follow {
+        model: Vec<u8>,
+        packet: Vec<u8>,
+        key: Vec<u8>,
+        path: Vec<u16>,
     },
     Write {
         numbers: Vec<u64>,
@@ -82,9 +91,18 @@ impl Case {
             Case::Match { model, name, words } => {
                 (b'M', vec![model.into(), name.into(), word_field(words)])
             }
-            Case::Sign { model, packet, key } => {
-                (b'S', vec![model.into(), packet.into(), key.into()])
-            }
+            Case::Sign {
+                model,
+                packet,
+                key,
+                path,
+            } => (b'S', path_fields(model, packet, key, path)),
+            Case::Follow {
+                model,
+                packet,
+                key,
+                path,
+            } => (b'P', path_fields(model, packet, key, path)),
             Case::Write {
                 numbers,
                 texts,
@@ -130,6 +148,13 @@ impl Case {
                 model: read_field(input, MAX_MODEL_FIELD)?,
                 packet: read_field(input, MAX_NAME_FIELD)?,
                 key: read_field(input, MAX_NAME_FIELD)?,
+                path: read_list(input, MAX_PATH_WORDS, u16::from_be_bytes)?,
+            },
+            b'P' => Case::Follow {
+                model: read_field(input, MAX_MODEL_FIELD)?,
+                packet: read_field(input, MAX_NAME_FIELD)?,
+                key: read_field(input, MAX_NAME_FIELD)?,
+                path: read_list(input, MAX_PATH_WORDS, u16::from_be_bytes)?,
             },
             b'W' => Case::Write {
                 numbers: read_list(input, MAX_NUMBERS, u64::from_be_bytes)?,
@@ -169,7 +194,22 @@ impl Case {
                 write_numbers(out, &words)?;
                 writeln!(out)
             }
-            Case::Sign { model, packet, key } => writeln!(out, "{}", sign(&model, &packet, &key)),
+            Case::Sign {
+                model,
+                packet,
+                key,
+                mut path,
+            } => {
+                write!(out, "{}", sign(&model, &packet, &key, &mut path))?;
+                write_numbers(out, &path)?;
+                writeln!(out)
+            }
+            Case::Follow {
+                model,
+                packet,
+                key,
+                path,
+            } => writeln!(out, "{}", follow(&model, &packet, &key, &path)),
             Case::Write {
                 numbers,
                 texts,
@@ -223,6 +263,17 @@ fn write_hexadecimal(out: &mut impl Write, bytes: &[u8]) -> io::Result<()> {
 /// The bytes of all items one after the other.
 fn joined<T, const N: usize>(items: &[T], bytes: impl Fn(&T) -> [u8; N]) -> Vec<u8> {
     items.iter().flat_map(bytes).collect()
+}
+
+/// The fields of a call with a path.
+fn path_fields<'c>(
+    model: &'c [u8],
+    packet: &'c [u8],
+    key: &'c [u8],
+    path: &[u16],
+) -> Vec<Cow<'c, [u8]>> {
+    let words = joined(path, |word| word.to_be_bytes());
+    vec![model.into(), packet.into(), key.into(), words.into()]
 }
 
 fn word_field(words: &[u32]) -> Cow<'static, [u8]> {
@@ -307,6 +358,13 @@ mod tests {
                 model: vec![9],
                 packet: vec![],
                 key: vec![7],
+                path: vec![0, 1, 256, 65_535],
+            },
+            Case::Follow {
+                model: vec![],
+                packet: vec![7, 0],
+                key: vec![8],
+                path: vec![65_534, 2],
             },
             Case::Write {
                 numbers: vec![0, u64::MAX],
@@ -343,6 +401,15 @@ mod tests {
         assert_eq!(read_all(b"V\0\x01\0\x01"), Err(Broken));
         assert_eq!(read_all(b"M\0\0\0\0\0\0\0\0\0\0\0\x01\0"), Err(Broken));
         assert_eq!(read_all(b"S\0\0\0\0\0\0\x10\x01"), Err(Broken));
+        assert_eq!(
+            read_all(b"S\0\0\0\0\0\0\0\0\0\0\0\0"),
+            Err(Broken),
+            "three fields only"
+        );
+        for letter in [b"S", b"P"] {
+            let odd = [&letter[..], &[0; 12], &[0, 0, 0, 3, 1, 2, 3]].concat();
+            assert_eq!(read_all(&odd), Err(Broken));
+        }
         assert_eq!(read_all(b"W\0\0\0\x01\0\0\0\0\0\0\0\0\0"), Err(Broken));
         assert_eq!(read_all(b""), Ok(vec![]));
     }
@@ -397,6 +464,45 @@ mod tests {
             "described 10 0 0 7 1 0 0 0 0 0 0 0 9 01\n"
         );
         assert_eq!(describe(&model, &[8; 2], &[]), "refused 30 0 8 8\n");
+    }
+
+    /// Model B of the papers, and /a by the key /a.
+    #[test]
+    fn lines_with_paths() {
+        let model = *b"\x61\x04\0\x01\x10\0\x25\x01\0\x69\x01\x01\x63\x0B\x25\x01\0\
+                       \x53\x06\x25\x01\x01\x23\x01\x01\x63\x09\x25\x01\x01\x57\x01\0\x55\x01\x01";
+        let name = |letter: u8| vec![7, 3, 8, 1, letter];
+        let sign = |key: u8, path: &[u16]| {
+            line(Case::Sign {
+                model: model.into(),
+                packet: name(b'a'),
+                key: name(key),
+                path: path.into(),
+            })
+        };
+        assert_eq!(sign(b'a', &[7, 8]), "allowed 1 1 0 0\n");
+        assert_eq!(sign(b'a', &[7, 8, 9, 65_535]), "allowed 1 1 0 0 9 65535\n");
+        assert_eq!(sign(b'b', &[7, 8, 9]), "not allowed 7 8 9\n");
+        assert_eq!(sign(b'b', &[258]), "refused 34 0 258\n");
+        assert_eq!(sign(b'a', &[]), "refused 34 0\n");
+        let follow = |key: u8, path: &[u16]| {
+            line(Case::Follow {
+                model: model.into(),
+                packet: name(b'a'),
+                key: name(key),
+                path: path.into(),
+            })
+        };
+        assert_eq!(follow(b'a', &[0, 0]), "accepted\n");
+        assert_eq!(follow(b'b', &[0, 0]), "no\n");
+        assert_eq!(follow(b'a', &[]), "no\n");
+        let unnamed = Case::Follow {
+            model: model.into(),
+            packet: name(b'a'),
+            key: vec![7],
+            path: vec![0, 0],
+        };
+        assert_eq!(line(unnamed), "refused 25 0\n");
     }
 
     #[test]
@@ -485,6 +591,14 @@ mod tests {
         assert!(!read(b"C", [65_537, 0, 0]));
         assert!(!read(b"C", [0, 4_097, 0]));
         assert!(!read(b"C", [0, 0, 65_537]));
+        for letter in [b"S", b"P"] {
+            let path = |length: u32| {
+                let fields = [0, 0, 0, length].map(field).concat();
+                read_all(&[&letter[..], &fields].concat()).is_ok()
+            };
+            assert!(path(4_096));
+            assert!(!path(4_098));
+        }
         assert!(!read(b"D", [7, 4, 0]));
         assert!(!read(b"W", [12, 0, 0]));
     }

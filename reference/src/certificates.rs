@@ -2,7 +2,7 @@
 
 use std::fmt;
 
-use crate::answers::{sign_loaded, SignAnswer};
+use crate::answers::first_allowed;
 use crate::elements::{Element, Part};
 use crate::names::{Name, Role};
 use crate::verdict::{load, Reason, Refusal};
@@ -39,10 +39,9 @@ fn try_find(model: &[u8], packet: &[u8], list: &[u8]) -> Result<CertificateAnswe
     let model = load(model)?;
     let packet = Name::load(packet, Role::Packet)?;
     let certificates = load_entries(&cut(list)?)?;
-    let first = certificates.iter().position(|certificate| {
-        let answer = sign_loaded(&model, &packet, certificate);
-        matches!(answer, SignAnswer::Allowed { .. })
-    });
+    let first = certificates
+        .iter()
+        .position(|certificate| first_allowed(&model, &packet, certificate).is_some());
     Ok(first.map_or(CertificateAnswer::None, CertificateAnswer::Certificate))
 }
 

@@ -13,6 +13,7 @@ mod list_damage;
 mod lists;
 mod models;
 mod names;
+mod paths;
 mod plan;
 mod program;
 mod random;
@@ -26,6 +27,7 @@ pub use damage::{critical_kind, optional_kind};
 pub use damaged::damaged_case;
 pub use descriptions::description_case;
 pub use models::{sample, sound_model, Sample};
+pub use paths::path_case;
 pub use program::write_generated;
 pub use random::Random;
 
@@ -73,10 +75,13 @@ fn sign_case(random: &mut Random, sample: Sample) -> Case {
     let models = Models::of(&sample);
     let (mut packet, mut key) = names::sign_names(random, &models.source);
     models.shorten_both(&mut packet, &mut key, MAX_WORK);
+    let needed = work::component_count(&packet) + work::component_count(&key);
+    let path = paths::lent_words(random, needed);
     Case::Sign {
         model: sample.bytes,
         packet,
         key,
+        path,
     }
 }
 

@@ -7,6 +7,7 @@
 //! - [`verdict`](mod@verdict): the tests of a model, refusals
 //! - [`walk`]: the depth-first walk
 //! - [`answers`]: the calls that match, sign, write and describe
+//! - [`follow`](mod@follow): the call that follows a path
 //! - [`certificates`]: the call that finds a certificate in a list
 //! - [`comparison`]: the call that compares two components
 //! - [`encode`]: the bytes of a model
@@ -22,6 +23,7 @@ pub mod comparison;
 pub mod description;
 pub mod elements;
 pub mod encode;
+pub mod follow;
 pub mod gaps;
 pub mod gen;
 pub mod model;
@@ -34,5 +36,6 @@ pub use answers::{
 };
 pub use certificates::{find_certificate, CertificateAnswer};
 pub use comparison::{compare_components, Comparison};
+pub use follow::{follow, FollowAnswer};
 pub use gaps::{bare, gaps, insert_element, Gap};
 pub use verdict::{verdict, Reason, Refusal, Verdict};

@@ -123,12 +123,39 @@ impl<'a> Call<'a> {
     }
 }
 
+/// An edge of either kind.
+#[derive(Clone, Copy, Debug)]
+pub enum Edge<'m, 'a> {
+    Value(&'m ValueEdge<'a>),
+    Pattern(&'m PatternEdge<'a>),
+}
+
+impl Edge<'_, '_> {
+    pub fn destination(&self) -> u64 {
+        match self {
+            Edge::Value(edge) => edge.destination,
+            Edge::Pattern(edge) => edge.destination,
+        }
+    }
+}
+
 impl<'a> Node<'a> {
-    /// Where the edges lead, ValueEdges first.
-    pub fn destinations(&self) -> impl Iterator<Item = u64> + use<'_, 'a> {
-        let by_value = self.value_edges.iter().map(|edge| edge.destination);
-        let by_pattern = self.pattern_edges.iter().map(|edge| edge.destination);
+    /// All edges, ValueEdges first. An edge's ordinal is its index among these; a
+    /// model has no room for so many that 16 bits wouldn't do.
+    pub fn edges(&self) -> impl Iterator<Item = Edge<'_, 'a>> {
+        let by_value = self.value_edges.iter().map(Edge::Value);
+        let by_pattern = self.pattern_edges.iter().map(Edge::Pattern);
         by_value.chain(by_pattern)
+    }
+
+    /// The edge that has this ordinal, if there are as many.
+    pub fn edge(&self, ordinal: u16) -> Option<Edge<'_, 'a>> {
+        self.edges().nth(ordinal.into())
+    }
+
+    /// Where the edges lead, in the order of their ordinals.
+    pub fn destinations(&self) -> impl Iterator<Item = u64> + use<'_, 'a> {
+        self.edges().map(|edge| edge.destination())
     }
 
     /// The options of all Constraints of all edges.

@@ -40,6 +40,8 @@ pub enum Reason {
     /// An entry of a list of certificates can't be cut or is no key name.
     EntryNoKeyName = 32,
     TooManyEntries = 33,
+    /// Fewer words than the two names have components.
+    PathTooShort = 34,
 }
 
 /// A refusal: its reason and the index of the first node or entry at fault. Of a

@@ -6,7 +6,7 @@
 use std::ops::ControlFlow;
 
 use crate::model::{
-    Argument, Call, Constraint, ConstraintOption, Function, Model, PatternEdge, Term,
+    Argument, Call, Constraint, ConstraintOption, Edge, Function, Model, PatternEdge, Term,
 };
 use crate::names::{Component, PlacedComponent};
 use crate::verdict::MAX_TAG;
@@ -52,6 +52,21 @@ impl<'n> Bindings<'n> {
         model.is_named(edge.tag) && self.bind_if_unbound(edge.tag, component)
     }
 
+    /// The same for an edge of either kind; answers the Tag that it bound.
+    pub fn bind_by(
+        &mut self,
+        model: &Model,
+        edge: Edge,
+        component: PlacedComponent<'n>,
+    ) -> Option<u64> {
+        match edge {
+            Edge::Value(_) => None,
+            Edge::Pattern(edge) => self
+                .bind_crossed(model, edge, component)
+                .then_some(edge.tag),
+        }
+    }
+
     /// Binds a Tag unless it is bound; tells whether it wasn't.
     pub fn bind_if_unbound(&mut self, tag: u64, component: PlacedComponent<'n>) -> bool {
         let slot = &mut self.slots[slot_of(tag)];
@@ -70,46 +85,59 @@ fn slot_of(tag: u64) -> usize {
     tag as usize - 1
 }
 
+/// What a walk has behind it.
+#[derive(Clone, Debug, Default)]
+pub struct Trace<'n> {
+    pub bindings: Bindings<'n>,
+    /// The ordinals of the edges that were crossed.
+    pub path: Vec<u16>,
+}
+
 /// Visits the nodes that the name matches, in the order of the walk, with the
-/// bindings of each match. Goes on while the visitor says so; the bindings are
-/// afterwards as they were before.
+/// trace of each match: what was there before, and behind it what this walk
+/// bound and crossed. Goes on while the visitor says so; the trace is afterwards
+/// as it was before.
 pub fn visit_matches<'n, T>(
     model: &Model,
     name: &[PlacedComponent<'n>],
-    bindings: &mut Bindings<'n>,
-    visit: &mut impl FnMut(usize, &mut Bindings<'n>) -> ControlFlow<T>,
+    trace: &mut Trace<'n>,
+    visit: &mut impl FnMut(usize, &mut Trace<'n>) -> ControlFlow<T>,
 ) -> ControlFlow<T> {
-    walk_from(model, model.start, name, bindings, visit)
+    walk_from(model, model.start, name, trace, visit)
 }
 
 fn walk_from<'n, T>(
     model: &Model,
     id: u64,
     components: &[PlacedComponent<'n>],
-    bindings: &mut Bindings<'n>,
-    visit: &mut impl FnMut(usize, &mut Bindings<'n>) -> ControlFlow<T>,
+    trace: &mut Trace<'n>,
+    visit: &mut impl FnMut(usize, &mut Trace<'n>) -> ControlFlow<T>,
 ) -> ControlFlow<T> {
     let index = id as usize;
     let Some((&first, rest)) = components.split_first() else {
-        return visit(index, bindings);
+        return visit(index, trace);
     };
-    let node = &model.nodes[index];
-    for edge in &node.value_edges {
-        if edge.value == first.component {
-            walk_from(model, edge.destination, rest, bindings, visit)?;
-        }
-    }
-    for edge in &node.pattern_edges {
-        if may_cross(edge, first.component, bindings) {
-            let is_new = bindings.bind_crossed(model, edge, first);
-            let flow = walk_from(model, edge.destination, rest, bindings, visit);
-            if is_new {
-                bindings.unbind(edge.tag);
+    for (ordinal, edge) in (0..).zip(model.nodes[index].edges()) {
+        if is_open(edge, first.component, &trace.bindings) {
+            let bound = trace.bindings.bind_by(model, edge, first);
+            trace.path.push(ordinal);
+            let flow = walk_from(model, edge.destination(), rest, trace, visit);
+            trace.path.pop();
+            if let Some(tag) = bound {
+                trace.bindings.unbind(tag);
             }
             flow?;
         }
     }
     ControlFlow::Continue(())
+}
+
+/// Whether an edge of either kind may be crossed with this component.
+pub fn is_open(edge: Edge, component: Component, bindings: &Bindings) -> bool {
+    match edge {
+        Edge::Value(edge) => edge.value == component,
+        Edge::Pattern(edge) => may_cross(edge, component, bindings),
+    }
 }
 
 /// Whether the edge may be crossed with this component under the bindings as

@@ -12,8 +12,8 @@ use lvs_reference::elements::{Element, Elements, Part};
 use lvs_reference::gen::certificate_case;
 use lvs_reference::names::{Name, Role};
 use lvs_reference::verdict::load;
-use lvs_reference::walk::{visit_matches, Bindings};
-use lvs_reference::{find_certificate, match_name, sign, MatchAnswer, SignAnswer};
+use lvs_reference::walk::{visit_matches, Trace};
+use lvs_reference::{find_certificate, match_name, MatchAnswer, SignAnswer};
 
 const CASES: u64 = 20_000;
 
@@ -133,11 +133,10 @@ fn reaches_signer_alone(model: &[u8], packet_node: usize, key: &[u8]) -> bool {
     let model = load(model).unwrap();
     let key = Name::load(key, Role::Key).unwrap();
     let signers = &model.nodes[packet_node].signers;
-    let mut bindings = Bindings::default();
     visit_matches(
         &model,
         &key.components,
-        &mut bindings,
+        &mut Trace::default(),
         &mut |node, _| match signers.contains(&(node as u64)) {
             true => ControlFlow::Break(()),
             false => ControlFlow::Continue(()),

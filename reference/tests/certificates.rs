@@ -4,7 +4,7 @@
 mod build;
 
 use build::*;
-use lvs_reference::{find_certificate, sign};
+use lvs_reference::find_certificate;
 
 fn found(model: &[u8], packet: &[u8], list: &[u8]) -> String {
     find_certificate(model, packet, list).to_string()

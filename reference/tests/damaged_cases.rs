@@ -25,7 +25,9 @@ fn letter_and_model(case: Case) -> (char, Vec<u8>) {
         Case::Sign { model, .. } => ('S', model),
         Case::Describe { model, .. } => ('D', model),
         Case::Certificate { model, .. } => ('C', model),
-        Case::Write { .. } | Case::Compare { .. } => panic!("no damaged model"),
+        Case::Write { .. } | Case::Compare { .. } | Case::Follow { .. } => {
+            panic!("no damaged model")
+        }
     }
 }
 

@@ -203,12 +203,23 @@ fn what_was_described_and_written_has_the_same_description() {
 #[test]
 fn what_was_described_and_written_matches_and_signs_alike() {
     for index in 0..CASES {
-        let Case::Sign { model, packet, key } = gen::case(13, index) else {
+        let Case::Sign {
+            model,
+            packet,
+            key,
+            path,
+        } = gen::case(13, index)
+        else {
             continue;
         };
         if let Verdict::Accepted(_) = verdict(&model) {
             let written = model_of(&lists_of(&model));
-            assert_eq!(sign(&written, &packet, &key), sign(&model, &packet, &key));
+            let (mut path, mut same_path) = (path.clone(), path);
+            assert_eq!(
+                sign(&written, &packet, &key, &mut path),
+                sign(&model, &packet, &key, &mut same_path)
+            );
+            assert_eq!(path, same_path);
             let (mut words, mut same_words) = ([9; 256], [9; 256]);
             assert_eq!(
                 match_name(&written, &packet, &mut words),

@@ -5,7 +5,7 @@ mod build;
 
 use build::Step::{Pattern, Temporary, Value};
 use build::*;
-use lvs_reference::{sign, verdict, SignAnswer, Verdict};
+use lvs_reference::{verdict, SignAnswer, Verdict};
 
 fn is_allowed(model: &[u8], packet: &str, key: &str) -> bool {
     match sign(model, &name(packet), &name(key)) {

@@ -2,7 +2,7 @@
 
 use std::collections::BTreeMap;
 
-use lvs_reference::cases::{Case, MAX_MODEL_FIELD, MAX_NAME_FIELD, MAX_WORDS};
+use lvs_reference::cases::{Case, MAX_MODEL_FIELD, MAX_NAME_FIELD, MAX_PATH_WORDS, MAX_WORDS};
 use lvs_reference::gen::{self, sound_model, Random};
 use lvs_reference::{verdict, Verdict};
 
@@ -31,8 +31,16 @@ fn cases_fit_their_form() {
             Case::Verdict { model } => model.len() <= MAX_MODEL_FIELD,
             Case::Match { model, name, words } =>
                 model.len() <= MAX_MODEL_FIELD && name_fits(&name) && words.len() <= MAX_WORDS,
-            Case::Sign { model, packet, key } =>
-                model.len() <= MAX_MODEL_FIELD && name_fits(&packet) && name_fits(&key),
+            Case::Sign {
+                model,
+                packet,
+                key,
+                path,
+            } =>
+                model.len() <= MAX_MODEL_FIELD
+                    && name_fits(&packet)
+                    && name_fits(&key)
+                    && path.len() <= MAX_PATH_WORDS,
             _ => false,
         });
     }
@@ -44,6 +52,7 @@ fn answer_kind(case: Case) -> String {
         Case::Verdict { .. } => 'V',
         Case::Match { .. } => 'M',
         Case::Sign { .. } => 'S',
+        Case::Follow { .. } => 'P',
         Case::Write { .. } => 'W',
         Case::Describe { .. } => 'D',
         Case::Certificate { .. } => 'C',
@@ -81,7 +90,8 @@ fn every_answer_comes_up_often() {
             .map(move |number| format!("{letter} refused {number}"))
     }));
     expected.extend([21, 22, 23, 27].map(|number| format!("M refused {number}")));
-    expected.extend((21..=26).map(|number| format!("S refused {number}")));
+    let with_names = (21..=26).chain([34]);
+    expected.extend(with_names.map(|number| format!("S refused {number}")));
     for kind in &expected {
         assert!(
             counts.get(kind).is_some_and(|&count| count >= 50),

@@ -3,7 +3,7 @@
 mod build;
 
 use build::*;
-use lvs_reference::{match_name, sign, verdict, MatchAnswer, SignAnswer, Verdict};
+use lvs_reference::{match_name, verdict, MatchAnswer, SignAnswer, Verdict};
 
 const ALLOWED_1_1: SignAnswer = SignAnswer::Allowed { packet: 1, key: 1 };
 

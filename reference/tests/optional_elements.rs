@@ -5,7 +5,7 @@ mod build;
 use build::*;
 use lvs_reference::cases::Case;
 use lvs_reference::gen::{self, critical_kind, optional_kind, sound_model, Random};
-use lvs_reference::{bare, gaps, insert_element, match_name, sign, verdict};
+use lvs_reference::{bare, follow, gaps, insert_element, match_name, sign, verdict};
 
 const SEED: u64 = 2_024;
 
@@ -68,29 +68,57 @@ fn an_empty_container_has_one_gap() {
     assert_eq!(deepest.count(), 1);
 }
 
-/// The answers of all three calls, with the words after the match call.
-fn all_answers(model: &[u8], packet: &[u8], key: &[u8]) -> (String, String, Vec<u32>, String) {
+/// What the calls answer, and the words that they leave.
+#[derive(Debug, PartialEq)]
+struct Answers {
+    verdict: String,
+    matched: String,
+    words: Vec<u32>,
+    signed: String,
+    path: Vec<u16>,
+    /// With all words of the path, and with those that the names need.
+    followed: [String; 2],
+}
+
+/// The answers of all calls, with this many words for a path.
+fn all_answers(model: &[u8], packet: &[u8], key: &[u8], room: u16) -> Answers {
     let mut words: Vec<u32> = (1_000..1_260).collect();
     let matched = match_name(model, packet, &mut words).to_string();
-    (
-        verdict(model).to_string(),
+    let mut path: Vec<u16> = (2_000..2_000 + room).collect();
+    let signed = sign(model, packet, key, &mut path).to_string();
+    // untouched words stand behind the path
+    let is_untouched = |(place, &word): (usize, &u16)| word == 2_000 + place as u16;
+    let written = path.iter().enumerate().position(is_untouched);
+    let used = &path[..written.unwrap_or(path.len())];
+    let followed = [&path, used].map(|path| follow(model, packet, key, path).to_string());
+    Answers {
+        verdict: verdict(model).to_string(),
         matched,
         words,
-        sign(model, packet, key).to_string(),
-    )
+        signed,
+        path,
+        followed,
+    }
 }
 
 #[test]
 fn a_model_and_its_bare_model_answer_alike() {
     let mut compared = 0;
     for index in 0..20_000 {
-        let Case::Sign { model, packet, key } = gen::case(SEED, index) else {
+        let Case::Sign {
+            model,
+            packet,
+            key,
+            path,
+        } = gen::case(SEED, index)
+        else {
             continue;
         };
         if let Ok(bare) = bare(&model) {
+            let room = path.len() as u16;
             assert_eq!(
-                all_answers(&model, &packet, &key),
-                all_answers(&bare, &packet, &key),
+                all_answers(&model, &packet, &key, room),
+                all_answers(&bare, &packet, &key, room),
                 "case {index}"
             );
             compared += usize::from(bare != model);
@@ -105,14 +133,14 @@ fn an_optional_element_in_any_gap_changes_no_answer() {
         let random = &mut Random::for_case(SEED, index);
         let model = sound_model(random);
         let (packet, key) = (name("/a/b"), name("/b"));
-        let expected = all_answers(&model, &packet, &key);
+        let expected = all_answers(&model, &packet, &key, 5);
         for gap in gaps(&model).unwrap().iter().take(200) {
             let length = random.below(4);
             let optional = element(optional_kind(random) as usize, &random.bytes(length));
             let altered = insert_element(&model, gap, &optional);
             if altered.len() <= 32_768 {
                 assert_eq!(
-                    all_answers(&altered, &packet, &key),
+                    all_answers(&altered, &packet, &key, 5),
                     expected,
                     "{index} {gap:?}"
                 );
@@ -131,7 +159,7 @@ fn a_critical_element_in_any_gap_is_refused_by_all_calls_where_it_starts() {
             let length = random.below(4);
             let critical = element(critical_kind(random) as usize, &random.bytes(length));
             let altered = insert_element(&model, gap, &critical);
-            let (verdict, matched, words, signed) = all_answers(&altered, &name("/a"), &name("/b"));
+            let answers = all_answers(&altered, &name("/a"), &name("/b"), 3);
             // only what stands in front of the gap is written anew
             let place = altered.len() - (model.len() - gap.offset) - critical.len();
             let expected = if altered.len() > 32_768 {
@@ -140,11 +168,17 @@ fn a_critical_element_in_any_gap_is_refused_by_all_calls_where_it_starts() {
                 format!("refused 2 {place}")
             };
             assert_eq!(
-                [&verdict, &matched, &signed],
-                [&expected; 3],
+                answers,
+                Answers {
+                    verdict: expected.clone(),
+                    matched: expected.clone(),
+                    words: (1_000..1_260).collect(),
+                    signed: expected.clone(),
+                    path: vec![2_000, 2_001, 2_002],
+                    followed: [expected.clone(), expected],
+                },
                 "{index} {gap:?}"
             );
-            assert_eq!(words, (1_000..1_260).collect::<Vec<u32>>());
         }
     }
 }

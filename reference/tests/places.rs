@@ -3,7 +3,7 @@
 mod build;
 
 use build::*;
-use lvs_reference::{describe, find_certificate, match_name, sign, verdict, write_model};
+use lvs_reference::{describe, find_certificate, follow, match_name, verdict, write_model};
 
 /// Version, StartId and NamedPatternCnt, in 12 bytes.
 const HEAD: &str = "61 04 00 01 10 00 25 01 00 69 01 00";
@@ -231,6 +231,7 @@ fn all_calls_give_the_place() {
     let mut words = [7; 3];
     assert_eq!(match_name(&bytes, &name, &mut words).to_string(), at(17));
     assert_eq!(sign(&bytes, &name, &name).to_string(), at(17));
+    assert_eq!(follow(&bytes, &name, &name, &[]).to_string(), at(17));
     assert_eq!(find_certificate(&bytes, &name, &[]).to_string(), at(17));
     let (mut numbers, mut texts) = ([7; 3], [7; 3]);
     let described = describe(&bytes, &mut numbers, &mut texts);

@@ -5,7 +5,7 @@ mod build;
 use std::collections::BTreeSet;
 
 use build::*;
-use lvs_reference::{match_name, sign, verdict};
+use lvs_reference::{match_name, verdict};
 
 type Faults = BTreeSet<u8>;
 

@@ -4,7 +4,7 @@
 mod build;
 
 use build::*;
-use lvs_reference::{describe, find_certificate, match_name, sign, verdict};
+use lvs_reference::{describe, find_certificate, match_name, verdict};
 
 /// The match call's answer and the words up to the last Tag asked for; the
 /// others must be 0, and those behind the first 256 kept.

@@ -3,7 +3,7 @@
 mod build;
 
 use build::*;
-use lvs_reference::{match_name, sign, verdict, Verdict};
+use lvs_reference::{match_name, verdict, Verdict};
 
 /// The match call's answer and the words up to the last Tag asked for.
 fn matched(model: &[u8], name: &[u8], tags: usize) -> (String, Vec<u32>) {

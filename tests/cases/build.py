@@ -189,8 +189,20 @@ def match(of, packet, words=()):
     return b"M" + field(of) + field(packet) + field(b"".join(word.to_bytes(4, "big") for word in words))
 
 
-def sign(of, packet, key):
-    return b"S" + field(of) + field(packet) + field(key)
+OLD_PATH = [65535 - i for i in range(20)]  # what a path's words hold before a call: no Node has so many edges
+
+
+def path_field(words):
+    return field(b"".join(word.to_bytes(2, "big") for word in words))
+
+
+def sign(of, packet, key, words=OLD_PATH):
+    return b"S" + field(of) + field(packet) + field(key) + path_field(words)
+
+
+def follow(of, packet, key, words):
+    """Whether a path is one of an allowed pair."""
+    return b"P" + field(of) + field(packet) + field(key) + path_field(words)
 
 
 def suggest(of, packet, *entries):
@@ -233,6 +245,19 @@ def matched(at, *bound, behind=()):
 def kept(answer, words=OLD):
     """The line of another answer: all words as they were."""
     return answer + words_line(words)
+
+
+def allowed(packet, key, *edges, words=OLD_PATH):
+    """The line of an allowed pair: its nodes, the ordinals of the edges to the packet's and then to the key's, and the words behind these."""
+    return f"allowed {packet} {key}" + words_line([*edges, *words[len(edges) :]])
+
+
+def path_kept(answer, words=OLD_PATH):
+    """The line of another answer: all words as they were."""
+    return kept(answer, words)
+
+
+NOT_ALLOWED = path_kept("not allowed")
 
 
 def refused_at(of):

@@ -344,22 +344,22 @@ def matches():
 
 
 def sign_forms(a, b):
-    """Where a signing call compares them: (what, model, packet name, key name, the nodes that are answered if they are equal)."""
-    yield "a ValueEdge for both", model(node(0, value_edge(1, a)), node(1, parent(0), signer(1))), name(a), name(b), "1 1"
-    yield "a Tag in packet and key", B, name(a), name(b), "1 1"
-    yield "a Tag twice in the key", tree(["p", (3,)], [(1,), (1,), ()]), name("p"), name(a, b), "1 3"
-    yield "a Tag option, bound by the packet", tree(["p", (1,), (3,)], [(2, must(tag(1))), ()]), name("p", a), name(b), "2 3"
-    yield "$eq of a Tag, bound by the packet", tree(["p", (1,), (3,)], [(2, must(call("$eq", tag(1)))), ()]), name("p", a), name(b), "2 3"
-    yield "a Value option in the key", tree(["p", (2,)], [(1, must(value(a))), ()]), name("p"), name(b), "1 2"
-    yield "$eq of a Value in the key", tree(["p", (2,)], [(1, must(call("$eq", value(a)))), ()]), name("p"), name(b), "1 2"
+    """Where a signing call compares them: (what, model, packet name, key name, the nodes and the path if they are equal)."""
+    yield "a ValueEdge for both", model(node(0, value_edge(1, a)), node(1, parent(0), signer(1))), name(a), name(b), (1, 1, 0, 0)
+    yield "a Tag in packet and key", B, name(a), name(b), (1, 1, 0, 0)
+    yield "a Tag twice in the key", tree(["p", (3,)], [(1,), (1,), ()]), name("p"), name(a, b), (1, 3, 0, 1, 0)
+    yield "a Tag option, bound by the packet", tree(["p", (1,), (3,)], [(2, must(tag(1))), ()]), name("p", a), name(b), (2, 3, 0, 0, 1)
+    yield "$eq of a Tag, bound by the packet", tree(["p", (1,), (3,)], [(2, must(call("$eq", tag(1)))), ()]), name("p", a), name(b), (2, 3, 0, 0, 1)
+    yield "a Value option in the key", tree(["p", (2,)], [(1, must(value(a))), ()]), name("p"), name(b), (1, 2, 0, 1)
+    yield "$eq of a Value in the key", tree(["p", (2,)], [(1, must(call("$eq", value(a)))), ()]), name("p"), name(b), (1, 2, 0, 1)
 
 
 def signings():
     for what, one, other, is_equal in pairs():
-        for form, of, packet, key, nodes in sign_forms(one, other):
-            yield f"{form}: {what}", sign(of, packet, key), f"allowed {nodes}" if is_equal else "not allowed"
+        for form, of, packet, key, found in sign_forms(one, other):
+            yield f"{form}: {what}", sign(of, packet, key), allowed(*found) if is_equal else NOT_ALLOWED
         for form, of, packet, key, _ in sign_forms(other, one) if not is_equal else ():
-            yield f"{form}: {what}, exchanged", sign(of, packet, key), "not allowed"
+            yield f"{form}: {what}, exchanged", sign(of, packet, key), NOT_ALLOWED
 
 
 def suggestions():
@@ -402,8 +402,8 @@ def same_types():
         for b_type, b_value in kinds:
             b, holds = component(b_value, b_type), a_type == b_type
             what = f"{a[:8].hex()} and {b[:8].hex()}"
-            yield f"$eq_type of a Tag: {what}", sign(of_tag, name("p", a), name(b)), "allowed 2 3" if holds else "not allowed"
-            yield f"$eq_type of a Value: {what}", sign(of_value, name("p"), name(b)), "allowed 1 2" if holds else "not allowed"
+            yield f"$eq_type of a Tag: {what}", sign(of_tag, name("p", a), name(b)), allowed(2, 3, 0, 0, 1) if holds else NOT_ALLOWED
+            yield f"$eq_type of a Value: {what}", sign(of_value, name("p"), name(b)), allowed(1, 2, 0, 1) if holds else NOT_ALLOWED
 
 
 def longest_names():
@@ -414,7 +414,7 @@ def longest_names():
             for form, of, components, tags in match_forms(a, b):
                 if len(components) == 1:
                     yield f"{form}: 1016 bytes, {what}", match(of, name(b), WORDS), match_line(is_itself, components, tags)
-            yield f"a Tag in packet and key: 1016 bytes, {what}", sign(B, name(a), name(b)), "allowed 1 1" if is_itself else "not allowed"
+            yield f"a Tag in packet and key: 1016 bytes, {what}", sign(B, name(a), name(b)), allowed(1, 1, 0, 0) if is_itself else NOT_ALLOWED
             yield f"the packet's own behind it: 1016 bytes, {what}", suggest(B, name(a), name(b), name(a)), f"certificate {0 if is_itself else 1}"
     value = some(506)
     for what, other in ("itself", value), *((f"place {i}", changed(value, i)) for i in (0, 253, 505)), ("a byte less", value[1:]):
@@ -436,7 +436,7 @@ def date_names():
             yield f"the key of day {what}", suggest(parts_of_days, name("part", day), *keys), f"certificate {i}"
             yield f"no key of day {what}", suggest(parts_of_days, name("part", day), *keys[:i], *keys[i + 1 :]), "none"
             for j in (i, (i + 1) % 10):
-                yield f"day {what} by 1{j}", sign(parts_of_days, name("part", day), keys[j]), "allowed 2 4" if i == j else "not allowed"
+                yield f"day {what} by 1{j}", sign(parts_of_days, name("part", day), keys[j]), allowed(2, 4, 0, 0, 1, 0) if i == j else NOT_ALLOWED
         other = component(f"20261120{end}")
         yield f"a day without an edge, {len(other)} bytes", match(each_day, name(other), WORDS), kept("no match", WORDS)
 

@@ -2,8 +2,8 @@
 tutorial, on models encoded by hand.
 
 In QUICK and TUTORIAL each occurrence of a temporary pattern has a Tag of its own, as 000 says; temporary.py has the same rules with
-Tags that occurrences share. What 003 prints as True is "allowed" here, with the nodes at which the two rules end; False is
-"not allowed".
+Tags that occurrences share. What 003 prints as True is "allowed" here, with the nodes at which the two rules end and the
+edges that lead there; False is "not allowed".
 """
 from build import *
 
@@ -29,6 +29,9 @@ def quick(root, admin, author, patterns=6):
 
 
 QUICK = quick((7, 8, 9), (10, 11, 12), (13, 14, 15))
+
+# the edges from the start to the Node at which each rule ends: of Node 2 first those for "KEY", "article" and "admin", then the pattern
+QUICK_EDGES = {ROOT: (0, 0, 0, 0, 0, 0), ARTICLE: (0, 0, 1, 0, 0, 0), ADMIN: (0, 0, 2, 0, 0, 0, 0, 0), AUTHOR: (0, 0, 3, 0, 0, 0, 0, 0)}
 
 QUICK_CHECKS = (
     ("/a/blog/article/math/2022/03", "/a/blog/author/xinyu/KEY/1/admin/1", f"allowed {ARTICLE} {AUTHOR}"),
@@ -56,6 +59,12 @@ def tutorial(root, admin, author, user, patterns=4):
 
 TUTORIAL = tutorial((5, 6, 7), (8, 9, 10, 11), (12, 13, 14, 15), (16, 17, 18, 19))
 
+# of Node 2 first the edge for "KEY", then the patterns in the rules' order
+TUTORIAL_EDGES = {
+    **{T_ROOT: (0, 0, 0, 0, 0, 0), T_ADMIN: (0, 0, 1, 0, 0, 0, 0, 0), T_AUTHOR: (0, 0, 2, 0, 0, 0, 0, 0)},
+    **{T_USER: (0, 0, 3, 0, 0, 0, 0, 0), T_ARTICLE: (0, 0, 4, 0, 0, 0)},
+}
+
 ADMIN_KEY = "/ndn/blog/admin/000001/KEY/1/root/1"
 AUTHOR_KEY = "/ndn/blog/author/100001/KEY/1/000001/1"
 TUTORIAL_CHECKS = (
@@ -70,6 +79,14 @@ TUTORIAL_CHECKS = (
     ("/ndn/blog/100001/post/202/1", AUTHOR_KEY, "not allowed"),
     ("/ndn/blog/200001/post/2022/1", "/ndn/blog/reader/200001/KEY/1/000001/1", "not allowed"),
 )
+
+
+def with_path(answer, edges):
+    """The line of a check, by the edges to each rule's end."""
+    if answer == "not allowed":
+        return NOT_ALLOWED
+    packet, by = map(int, answer.split()[1:])
+    return allowed(packet, by, *edges[packet], *edges[by])
 
 
 def patterns():
@@ -91,26 +108,26 @@ def patterns():
     # #r1: /a/b & {b: c}, Node 2, and #r2: "r2"/c/d <= #r1, Node 5
     chain = tree([(1,), (2, constraint(option(tag(3)))), ()], ["r2", (3,), (4,), (2,)])
     yield "#r1 by itself", match(chain, path("/x/y"), OLD), kept("no match")
-    yield "#r1 signs #r2 with its c", sign(chain, path("/r2/y/z"), path("/x/y")), "allowed 5 2"
-    yield "and with another", sign(chain, path("/r2/y/z"), path("/x/z")), "not allowed"
+    yield "#r1 signs #r2 with its c", sign(chain, path("/r2/y/z"), path("/x/y")), allowed(5, 2, 0, 0, 0, 1, 0)
+    yield "and with another", sign(chain, path("/r2/y/z"), path("/x/z")), NOT_ALLOWED
     # a post is signed by its own author, or by any admin
     posts = tree(
         ["post", (1,), (2,), (5, 8)],
         ["author", (1,), (8,)],
         ["admin", (3,), (4,), ()],
     )
-    yield "the post's author", sign(posts, path("/post/xinyu/2022"), path("/author/xinyu")), "allowed 3 5"
-    yield "another author", sign(posts, path("/post/xinyu/2022"), path("/author/zhiyi")), "not allowed"
-    yield "any admin", sign(posts, path("/post/xinyu/2022"), path("/admin/zhiyi/k")), "allowed 3 8"
+    yield "the post's author", sign(posts, path("/post/xinyu/2022"), path("/author/xinyu")), allowed(3, 5, 0, 0, 0, 1, 0)
+    yield "another author", sign(posts, path("/post/xinyu/2022"), path("/author/zhiyi")), NOT_ALLOWED
+    yield "any admin", sign(posts, path("/post/xinyu/2022"), path("/admin/zhiyi/k")), allowed(3, 8, 0, 0, 0, 2, 0, 0)
 
 
 def cases():
     yield "quick example", verdict(QUICK), "accepted 23"
     yield "tutorial", verdict(TUTORIAL), "accepted 29"
     for i, (packet, by, answer) in enumerate(QUICK_CHECKS, 1):
-        yield f"quick example, check {i}", sign(QUICK, path(packet), path(by)), answer
+        yield f"quick example, check {i}", sign(QUICK, path(packet), path(by)), with_path(answer, QUICK_EDGES)
     for i, (packet, by, answer) in enumerate(TUTORIAL_CHECKS, 1):
-        yield f"tutorial, check {i}", sign(TUTORIAL, path(packet), path(by)), answer
+        yield f"tutorial, check {i}", sign(TUTORIAL, path(packet), path(by)), with_path(answer, TUTORIAL_EDGES)
     # /ndn at 2 (5 bytes), /blog at 7 (6), the rest from 13: 100001 (8 bytes), post (6), 2022 (6), 1 (3)
     article = matched(T_ARTICLE, (2, 13, 8), (3, 27, 6), (4, 33, 3))
     yield "tutorial, an article's bindings", match(TUTORIAL, path("/ndn/blog/100001/post/2022/1"), OLD), article

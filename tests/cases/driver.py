@@ -1,5 +1,5 @@
 """Inputs of lvs_cases as wholes: where a case is broken, and many cases in one run."""
-from bench import A, B, SLASH_A, SLASH_B
+from bench import A, B, EMPTY, SLASH_A, SLASH_B
 from build import *
 from components import changed, some
 
@@ -17,6 +17,8 @@ SUGGEST_LINE = "certificate 1\n"
 DAY, NEXT_DAY = component("20261116"), component("20261117")
 COMPARE = compare(DAY, NEXT_DAY)
 COMPARE_LINE = "different 1\n"
+SIGN, FOLLOW = sign(B, SLASH_A, SLASH_A, [7, 8, 9]), follow(B, SLASH_A, SLASH_A, [0, 0])
+SIGN_LINE, FOLLOW_LINE = "allowed 1 1 0 0 9\n", "accepted\n"
 LONGEST = component(some(65532))  # 65,536 bytes: a header of 4 and the value
 
 # fields that are not exactly one component
@@ -66,17 +68,17 @@ NO_COMPONENTS = {
 
 def runs():
     yield "no case", b"", ""
-    for of in (GOOD, WORDS, sign(B, SLASH_A, SLASH_A), WRITE, DESCRIBE, SUGGEST, COMPARE):
+    for of in (GOOD, WORDS, SIGN, FOLLOW, WRITE, DESCRIBE, SUGGEST, COMPARE):
         for size in range(1, len(of), max(1, len(of) // 40)):
             yield f"{of[:1]} cut after {size} bytes", GOOD + of[:size], LINE + "broken\n"
         yield f"{of[:1]} without its last byte", GOOD + of[:-1], LINE + "broken\n"
-    for letter in (b"X", b"v", b"w", b"d", b"c", b"e", b"\x00", b"\n"):
+    for letter in (b"X", b"v", b"w", b"d", b"c", b"e", b"m", b"s", b"p", b"\x00", b"\n"):
         yield f"letter {letter}", GOOD + letter + GOOD[1:] + GOOD, LINE + "broken\n"
     longest = bytes(65536)
     yield "a model of 65,536 bytes", verdict(longest) + GOOD, "refused 1 0\n" + LINE
     yield "a model of 65,537 bytes", verdict(longest + b"\x00") + GOOD, "broken\n"
     yield "a name of 4,097 bytes", match(B, bytes(4097), OLD) + GOOD, "broken\n"
-    yield "a key name of 4,096 bytes", sign(B, SLASH_A, bytes(4096)) + GOOD, "refused 24 0\n" + LINE
+    yield "a key name of 4,096 bytes", sign(B, SLASH_A, bytes(4096), [7]) + GOOD, "refused 24 0 7\n" + LINE
     yield "a key name of 4,097 bytes", sign(B, SLASH_A, bytes(4097)) + GOOD, "broken\n"
     yield "1,024 words", match(A, SLASH_A, [7] * 1024) + GOOD, kept("no match", [7] * 1024) + "\n" + LINE
     yield "1,025 words", match(A, SLASH_A, [7] * 1025) + GOOD, "broken\n"
@@ -121,8 +123,64 @@ def runs():
         yield what, of + GOOD, "broken\n"
     # what an earlier case left behind in the driver is no part of a list
     yield "a short list after a long one", suggest(B, SLASH_A, *[SLASH_A] * 64) + suggest(B, SLASH_A, SLASH_B), "certificate 0\nnone\n"
-    for part in component_fields, long_components, many_comparisons:
+    for part in path_fields, many_paths, component_fields, long_components, many_comparisons:
         yield from part()
+
+
+def path_fields():
+    """The fields of `S` and `P`, each behind a good case: a path has at most 2,048 words, of two bytes each."""
+    words = [60000 - i for i in range(2048)]
+    yield "2,048 path words", sign(B, SLASH_A, SLASH_A, words) + GOOD, allowed(1, 1, 0, 0, words=words) + "\n" + LINE
+    yield "2,048 path words, not allowed", sign(A, SLASH_A, SLASH_A, words) + GOOD, kept("not allowed", words) + "\n" + LINE
+    yield "2,048 path words to follow", follow(B, SLASH_A, SLASH_A, [0] * 2048) + GOOD, "no\n" + LINE
+    yield "no path words", sign(B, SLASH_A, SLASH_A, []) + follow(B, SLASH_A, SLASH_A, []) + GOOD, "refused 34 0\nno\n" + LINE
+    yield "no path words, none needed", sign(A, EMPTY, EMPTY, []) + follow(A, EMPTY, EMPTY, []) + GOOD, "not allowed\nno\n" + LINE
+    # the longest of all four
+    longest = sign(bytes(65536), bytes(4096), bytes(4096), words) + follow(bytes(65536), bytes(4096), bytes(4096), words)
+    yield "the longest fields", longest + GOOD, kept("refused 1 0", words) + "\nrefused 1 0\n" + LINE
+    for letter, line in (b"S", SIGN_LINE), (b"P", FOLLOW_LINE):
+        good = SIGN if letter == b"S" else FOLLOW
+
+        def case(of, packet, key, data):
+            return letter + field(of) + field(packet) + field(key) + field(data)
+
+        # where the path is at fault the case is, whatever the model and the names are
+        for what, of, packet, key in (
+            ("good names", B, SLASH_A, SLASH_A),
+            ("empty names", A, EMPTY, EMPTY),
+            ("a refused model", b"", SLASH_A, SLASH_A),
+            ("a refused packet name", B, b"", SLASH_A),
+            ("a refused key name", B, SLASH_A, b""),
+        ):
+            for size in (1, 3, 5, 127, 4095, 4097, 4098, 4099, 65536):
+                yield f"{letter}, {what}, a path of {size} bytes", good + case(of, packet, key, bytes(size)) + GOOD, line + "broken\n"
+        names = letter + field(B) + field(SLASH_A) + field(SLASH_A)
+        for what, data in (
+            ("a model of 65,537 bytes", case(bytes(65537), SLASH_A, SLASH_A, bytes(4))),
+            ("a packet name of 4,097 bytes", case(B, bytes(4097), SLASH_A, bytes(4))),
+            ("a key name of 4,097 bytes", case(B, SLASH_A, bytes(4097), bytes(4))),
+            ("no path", names),  # the next case's letter is in its length
+            ("a path of 2^31 bytes", names + b"\x80\x00\x00\x00"),
+            ("a path of 2^32 - 1 bytes", names + b"\xff" * 4),
+            ("a path of 2^32 - 2 bytes", names + b"\xff\xff\xff\xfe"),
+            ("a path of two bytes, one missing", names + b"\x00\x00\x00\x02\x00"),
+        ):
+            after = b"" if what.endswith("missing") else GOOD
+            yield f"{letter}, {what}", good + data + after, line + "broken\n"
+        yield f"{letter}, a fifth field", good + field(b"") + GOOD, line + "broken\n"
+        yield f"{letter}, two cases", good + good + GOOD, line * 2 + LINE
+
+
+def many_paths():
+    """What a case has left behind is no part of the next."""
+    long, short = sign(B, SLASH_A, SLASH_A, [5] * 2048), sign(B, SLASH_A, SLASH_B, [6])
+    yield "few words after many", long + short + SIGN, allowed(1, 1, 0, 0, words=[5] * 2048) + "\nrefused 34 0 6\n" + SIGN_LINE
+    yield "no words after many", long + sign(A, EMPTY, EMPTY, []), allowed(1, 1, 0, 0, words=[5] * 2048) + "\nnot allowed\n"
+    several = b"".join(follow(B, SLASH_A, SLASH_A, [0] * size) for size in (3, 2, 1, 2, 0))
+    yield "paths to follow, one after the other", several, "no\naccepted\nno\naccepted\nno\n"
+    yield "a path to follow after a longer one", follow(B, SLASH_A, SLASH_A, [0] * 2048) + FOLLOW, "no\n" + FOLLOW_LINE
+    yield "2,000 cases with paths", (SIGN + FOLLOW) * 2000, (SIGN_LINE + FOLLOW_LINE) * 2000
+    yield "100 cases with 2,048 words", long * 100, (allowed(1, 1, 0, 0, words=[5] * 2048) + "\n") * 100
 
 
 def component_fields():
@@ -187,7 +245,8 @@ def many_comparisons():
     others = (
         (GOOD, LINE),
         (WORDS, WORDS_LINE),
-        (sign(B, SLASH_A, SLASH_A), "allowed 1 1\n"),
+        (SIGN, SIGN_LINE),
+        (FOLLOW, FOLLOW_LINE),
         (WRITE, WRITE_LINE),
         (DESCRIBE, DESCRIBE_LINE),
         (SUGGEST, SUGGEST_LINE),

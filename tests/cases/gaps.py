@@ -37,7 +37,7 @@ def put_everywhere(inside, spare):
     return concat(spare, *(concat(e, spare) for e in written))
 
 
-# /v/w matches Node 2 with Tag 1 bound to w: 2 bytes of the name, then /v in 3 bytes, then /w. Its own key signs it.
+# /v/w matches Node 2 with Tag 1 bound to w: 2 bytes of the name, then /v in 3 bytes, then /w. Its own key signs it. Each Node has one edge.
 FULL = model(
     node(0, rule_name("#start"), value_edge(1, "v")),
     node(
@@ -58,13 +58,13 @@ KNOWN = [faulty(element(typ)) for typ in (NAME, GENERIC)]  # types 7 and 8 are n
 def answered(what, of):
     yield what, verdict(of), "accepted 3"
     yield what, match(of, PACKET, OLD), matched(2, (1, 5, 3))
-    yield what, sign(of, PACKET, PACKET), "allowed 2 2"
+    yield what, sign(of, PACKET, PACKET), allowed(2, 2, 0, 0, 0, 0)
 
 
 def malformed(what, of):
     yield what, verdict(of), refused_at(of)
     yield what, match(of, PACKET, OLD), kept(refused_at(of))
-    yield what, sign(of, PACKET, PACKET), refused_at(of)
+    yield what, sign(of, PACKET, PACKET), path_kept(refused_at(of))
 
 
 def cases():

@@ -6,10 +6,10 @@ A_NAME = path("/a")
 
 
 def all_three(what, of, answer):
-    """A model that is refused is refused by all three calls, and the buffer is kept."""
+    """A model that is refused is refused by all three calls, and the buffers are kept."""
     yield what, verdict(of), answer
     yield what, match(of, A_NAME, OLD), kept(answer)
-    yield what, sign(of, A_NAME, A_NAME), answer
+    yield what, sign(of, A_NAME, A_NAME), path_kept(answer)
 
 
 def star(count):
@@ -21,7 +21,7 @@ def star(count):
 def nodes():
     yield "256 Nodes", verdict(star(256)), "accepted 256"
     yield "256 Nodes: the last is reached", match(star(256), path("/255"), OLD), matched(255)
-    yield "256 Nodes: the last signs", sign(star(256), path("/255"), path("/255")), "allowed 255 255"
+    yield "256 Nodes: the last signs", sign(star(256), path("/255"), path("/255")), allowed(255, 255, 254, 254)
     yield from all_three("257 Nodes", star(257), "refused 4 0")
 
 
@@ -51,7 +51,7 @@ def tags():
     ):
         yield f"Tag 128 in {where}", verdict(of(128)), "accepted 2"
         yield f"Tag 128 in {where}", match(of(128), A_NAME, OLD), matched(1, (bound, 2, 3))
-        yield f"Tag 128 in {where}", sign(of(128), A_NAME, A_NAME), "allowed 1 1"
+        yield f"Tag 128 in {where}", sign(of(128), A_NAME, A_NAME), allowed(1, 1, 0, 0)
         for n in (0, 129, 256 + 1, (1 << 32) + 1):
             yield from all_three(f"Tag {n} in {where}", of(n), "refused 5 0")
 
@@ -67,16 +67,17 @@ def components():
     def a_name(count):
         return name(*["a"] * count)
 
+    room = list(range(300, 370))  # room for two names of 33 components, and four more
     yield "32 components", match(LOOP, a_name(32), OLD), matched(0)
     yield "31 components", match(LOOP, a_name(31), OLD), matched(1)
     yield "33 components", match(LOOP, a_name(33), OLD), kept("refused 23 0")
-    yield "32 and 32 components", sign(LOOP, a_name(32), a_name(32)), "allowed 0 0"
-    yield "33 components in the packet name", sign(LOOP, a_name(33), a_name(32)), "refused 23 0"
-    yield "33 components in the key name", sign(LOOP, a_name(32), a_name(33)), "refused 26 0"
-    yield "33 in both", sign(LOOP, a_name(33), a_name(33)), "refused 23 0"
+    yield "32 and 32 components", sign(LOOP, a_name(32), a_name(32), room), allowed(0, 0, *[0] * 64, words=room)
+    yield "33 components in the packet name", sign(LOOP, a_name(33), a_name(32), room), path_kept("refused 23 0", room)
+    yield "33 components in the key name", sign(LOOP, a_name(32), a_name(33), room), path_kept("refused 26 0", room)
+    yield "33 in both", sign(LOOP, a_name(33), a_name(33), room), path_kept("refused 23 0", room)
     # malformed is tested before the number of components
     yield "33 components and a broken one", match(LOOP, name(*["a"] * 33, b"\x08"), OLD), kept("refused 22 0")
-    yield "the same in the key name", sign(LOOP, a_name(1), name(*["a"] * 33, b"\x08")), "refused 25 0"
+    yield "the same in the key name", sign(LOOP, a_name(1), name(*["a"] * 33, b"\x08")), path_kept("refused 25 0")
 
 
 def words():
@@ -96,7 +97,7 @@ def words():
 def model_bytes():
     yield "32,768 bytes", verdict(padded(B, 32768)), "accepted 2"
     yield "32,768 bytes", match(padded(B, 32768), A_NAME, OLD), matched(1, (1, 2, 3))
-    yield "32,768 bytes", sign(padded(B, 32768), A_NAME, A_NAME), "allowed 1 1"
+    yield "32,768 bytes", sign(padded(B, 32768), A_NAME, A_NAME), allowed(1, 1, 0, 0)
     yield from all_three("32,769 bytes", padded(B, 32769), "refused 1 0")
     # 1 is tested before 2
     yield "32,768 malformed bytes", verdict(bytes(32768)), "refused 2 0"
@@ -110,15 +111,15 @@ def name_bytes():
     assert len(longest) == 1024 and len(longer) == 1025
     yield "a name of 1,024 bytes", match(B, longest, OLD), matched(1, (1, 4, 1020))
     yield "a name of 1,025 bytes", match(B, longer, OLD), kept("refused 21 0")
-    yield "packet and key of 1,024 bytes", sign(B, longest, longest), "allowed 1 1"
-    yield "a packet name of 1,025 bytes", sign(B, longer, longest), "refused 21 0"
-    yield "a key name of 1,025 bytes", sign(B, longest, longer), "refused 24 0"
-    yield "both", sign(B, longer, longer), "refused 21 0"
+    yield "packet and key of 1,024 bytes", sign(B, longest, longest), allowed(1, 1, 0, 0)
+    yield "a packet name of 1,025 bytes", sign(B, longer, longest), path_kept("refused 21 0")
+    yield "a key name of 1,025 bytes", sign(B, longest, longer), path_kept("refused 24 0")
+    yield "both", sign(B, longer, longer), path_kept("refused 21 0")
     # the length is tested before anything is read
     yield "1,024 bytes of noise", match(B, bytes(1024), OLD), kept("refused 22 0")
     yield "1,025 bytes of noise", match(B, bytes(1025), OLD), kept("refused 21 0")
-    yield "1,025 bytes of noise as a key", sign(B, longest, bytes(1025)), "refused 24 0"
-    yield "a malformed packet name and a long key name", sign(B, b"", longer), "refused 22 0"
+    yield "1,025 bytes of noise as a key", sign(B, longest, bytes(1025)), path_kept("refused 24 0")
+    yield "a malformed packet name and a long key name", sign(B, b"", longer), path_kept("refused 22 0")
     yield "4,096 bytes, the driver's limit", match(B, bytes(4096), OLD), kept("refused 21 0")
 
 
@@ -141,7 +142,7 @@ def integers():
     for size in (1, 2, 4, 8):
         yield f"integers of {size} bytes", verdict(sized(size)), "accepted 2"
         yield f"integers of {size} bytes", match(sized(size), A_NAME, OLD), matched(1, (1, 2, 3))
-        yield f"integers of {size} bytes", sign(sized(size), A_NAME, A_NAME), "allowed 1 1"
+        yield f"integers of {size} bytes", sign(sized(size), A_NAME, A_NAME), allowed(1, 1, 0, 0)
     for size in (3, 5, 6, 7, 9):
         yield f"integers of {size} bytes", verdict(sized(size)), "refused 2 6"  # StartId is the first
     # no bit of a large integer is lost

@@ -6,7 +6,8 @@ that of a walk in which every Tag binds. Only the count differs between them.
 from bench import B, EMPTY, SLASH_A, SLASH_B
 from build import *
 from certificates import TOO_MANY, as_lists, bad_entry, certificate, documents, many
-from document_003 import ADMIN, ADMIN_KEY, AUTHOR, AUTHOR_KEY, QUICK_CHECKS, ROOT, TUTORIAL_CHECKS, quick, tutorial
+from document_003 import ADMIN, ADMIN_KEY, AUTHOR, AUTHOR_KEY, QUICK_CHECKS, QUICK_EDGES, ROOT, TUTORIAL_CHECKS, TUTORIAL_EDGES
+from document_003 import quick, tutorial, with_path
 from document_003 import T_ADMIN, T_ARTICLE, T_AUTHOR, T_ROOT, T_USER
 from gaps import CRITICAL, FULL, OPTIONAL, PACKET, put_everywhere, put_in
 from limits import A_NAME, all_three
@@ -36,8 +37,9 @@ def walked(at, uri, tags, count):
     return matched(at, *((n, *place) for n, place in bound.items()))
 
 
-def allowed_if(holds, packet_node, key_node):
-    return f"allowed {packet_node} {key_node}" if holds else "not allowed"
+def allowed_if(holds, *found, **rest):
+    """`found` is the nodes and the path of an allowed pair."""
+    return allowed(*found, **rest) if holds else path_kept("not allowed", **rest)
 
 
 # the request's own example
@@ -52,18 +54,18 @@ def bench():
     yield "B, count 0: /b at node 1, no Tag bound", match(none, SLASH_B, OLD), matched(1)
     yield "B, count 0: the empty name at node 0", match(none, EMPTY, OLD), matched(0)
     yield "B, count 0: /a/b", match(none, AB, OLD), NO_MATCH
-    yield "B, count 0: (/a, /b)", sign(none, SLASH_A, SLASH_B), "allowed 1 1"
-    yield "B, count 0: (/b, /a)", sign(none, SLASH_B, SLASH_A), "allowed 1 1"
-    yield "B, count 0: (/a, /a)", sign(none, SLASH_A, SLASH_A), "allowed 1 1"
-    yield "B, count 0: (/a, empty)", sign(none, SLASH_A, EMPTY), "not allowed"
-    yield "B, count 0: (empty, /a)", sign(none, EMPTY, SLASH_A), "not allowed"
+    yield "B, count 0: (/a, /b)", sign(none, SLASH_A, SLASH_B), allowed(1, 1, 0, 0)
+    yield "B, count 0: (/b, /a)", sign(none, SLASH_B, SLASH_A), allowed(1, 1, 0, 0)
+    yield "B, count 0: (/a, /a)", sign(none, SLASH_A, SLASH_A), allowed(1, 1, 0, 0)
+    yield "B, count 0: (/a, empty)", sign(none, SLASH_A, EMPTY), NOT_ALLOWED
+    yield "B, count 0: (empty, /a)", sign(none, EMPTY, SLASH_A), NOT_ALLOWED
     for count in (1, 2, 128, LARGEST):
         of = with_count(B, count)
         yield f"B, count {count}", verdict(of), "accepted 2"
         yield f"B, count {count}: /a at node 1, Tag 1 at 2, length 3", match(of, SLASH_A, OLD), matched(1, (1, 2, 3))
-        yield f"B, count {count}: (/a, /a)", sign(of, SLASH_A, SLASH_A), "allowed 1 1"
-        yield f"B, count {count}: (/a, /b)", sign(of, SLASH_A, SLASH_B), "not allowed"
-        yield f"B, count {count}: (/a, empty)", sign(of, SLASH_A, EMPTY), "not allowed"
+        yield f"B, count {count}: (/a, /a)", sign(of, SLASH_A, SLASH_A), allowed(1, 1, 0, 0)
+        yield f"B, count {count}: (/a, /b)", sign(of, SLASH_A, SLASH_B), NOT_ALLOWED
+        yield f"B, count {count}: (/a, empty)", sign(of, SLASH_A, EMPTY), NOT_ALLOWED
 
 
 # the Tag and the count as numbers
@@ -78,7 +80,7 @@ def one_edge(n, count, tag_size=None, count_size=None):
 def at_count(what, n, count, *sizes):
     of = one_edge(n, count, *sizes)
     yield what, match(of, SLASH_A, OLD), matched(1, (n, 2, 3)) if n <= count else matched(1)
-    yield what, sign(of, SLASH_A, SLASH_B), "not allowed" if n <= count else "allowed 1 1"
+    yield what, sign(of, SLASH_A, SLASH_B), allowed_if(n > count, 1, 1, 0, 0)
 
 
 def counts():
@@ -119,8 +121,8 @@ def repeated():
             line = matched(2) if free else matched(2, (1, 2, 3)) if is_equal else NO_MATCH
             yield f"twice in a name, count {count}: {what}", match(twice, packet, OLD), line
         for packet, key in ("/a/b", "/c/d"), ("/a/a", "/b/b"), ("/a/a", "/a/b"), ("/a/b", "/a/b"):
-            yield f"twice in {packet} and {key}, count {count}", sign(twice, path(packet), path(key)), allowed_if(free, 2, 2)
-        yield f"twice in /a/a and /a/a, count {count}", sign(twice, AA, AA), "allowed 2 2"
+            yield f"twice in {packet} and {key}, count {count}", sign(twice, path(packet), path(key)), allowed_if(free, 2, 2, 0, 0, 0, 0)
+        yield f"twice in /a/a and /a/a, count {count}", sign(twice, AA, AA), allowed(2, 2, 0, 0, 0, 0)
         apart = tree([(1,), "x", (1,), "x", (1,), ()], patterns=count)
         yield f"three times, count {count}: different components", match(apart, path("/a/x/b/x/c"), OLD), matched(5) if free else NO_MATCH
         line = walked(5, "/a/x/a/x/a", (1, None, 1, None, 1), count)
@@ -130,19 +132,23 @@ def repeated():
         different, equal = name(*(f"{i:02}" for i in range(32))), name(*["00"] * 32)
         yield f"32 times, count {count}: different components", match(itself, different, OLD), matched(0) if free else NO_MATCH
         yield f"32 times, count {count}: equal components", match(itself, equal, OLD), matched(0) if free else matched(0, (1, 2, 4))
-        yield f"32 times in both names, count {count}", sign(itself, different, different), allowed_if(free, 0, 0)
-        yield f"32 times, another key, count {count}", sign(itself, equal, path("/01")), allowed_if(free, 0, 0)
-        yield f"32 times, the same key, count {count}", sign(itself, equal, path("/00/00")), "allowed 0 0"
+        room = list(range(900, 968))  # four words more than two names of 32 components take
+        line = allowed_if(free, 0, 0, *[0] * 64, words=room)
+        yield f"32 times in both names, count {count}", sign(itself, different, different, room), line
+        line = allowed_if(free, 0, 0, *[0] * 33, words=room)
+        yield f"32 times, another key, count {count}", sign(itself, equal, path("/01"), room), line
+        line = allowed(0, 0, *[0] * 34, words=room)
+        yield f"32 times, the same key, count {count}", sign(itself, equal, path("/00/00"), room), line
         # rules p and q, whose keys are of rule k
         rules = tree(["p", (1,), (6,)], ["q", (1,), (6,)], ["k", (1,), ()], patterns=count)
-        for packet, at in ("/p/a", 2), ("/q/a", 4):
-            yield f"{packet} by /k/b, count {count}", sign(rules, path(packet), path("/k/b")), allowed_if(free, at, 6)
-            yield f"{packet} by /k/a, count {count}", sign(rules, path(packet), path("/k/a")), f"allowed {at} 6"
-            yield f"{packet} by /k, count {count}", sign(rules, path(packet), path("/k")), "not allowed"
+        for packet, found in ("/p/a", (2, 6, 0, 0, 2, 0)), ("/q/a", (4, 6, 1, 0, 2, 0)):
+            yield f"{packet} by /k/b, count {count}", sign(rules, path(packet), path("/k/b")), allowed_if(free, *found)
+            yield f"{packet} by /k/a, count {count}", sign(rules, path(packet), path("/k/a")), allowed(*found)
+            yield f"{packet} by /k, count {count}", sign(rules, path(packet), path("/k")), NOT_ALLOWED
         # a packet's Tag again in the key's name, twice there
         chain = tree(["p", (1,), (5,)], ["k", (1,), (1,), ()], patterns=count)
         for key, is_equal in ("/k/a/a", True), ("/k/a/b", False), ("/k/b/a", False), ("/k/b/b", False):
-            yield f"/p/a by {key}, count {count}", sign(chain, path("/p/a"), path(key)), allowed_if(free or is_equal, 2, 5)
+            yield f"/p/a by {key}, count {count}", sign(chain, path("/p/a"), path(key)), allowed_if(free or is_equal, 2, 5, 0, 0, 1, 0, 0)
 
 
 def mixed():
@@ -179,7 +185,7 @@ def mixed():
         for key in ("/k/a/x", "/k/a/y", "/k/b/x", "/k/b/y"):
             _, _, author, issuer = key.split("/")
             holds = (count < 1 or author == "a") and (count < 2 or issuer == "x")
-            yield f"/p/a/x by {key}, count {count}", sign(of, path("/p/a/x"), path(key)), allowed_if(holds, 3, 6)
+            yield f"/p/a/x by {key}, count {count}", sign(of, path("/p/a/x"), path(key)), allowed_if(holds, 3, 6, 0, 0, 0, 1, 0, 0)
 
 
 # Constraints
@@ -201,24 +207,24 @@ def named_in_terms():
         for count in (0, 1):
             own = tree([(1, naming(1)), (1,)], patterns=count)
             yield f"{what}: the edge's own Tag, count {count}", match(own, A_NAME, OLD), NO_MATCH
-            yield f"{what}: the edge's own Tag, count {count}", sign(own, A_NAME, A_NAME), "not allowed"
+            yield f"{what}: the edge's own Tag, count {count}", sign(own, A_NAME, A_NAME), NOT_ALLOWED
             again = tree([(1,), (1, naming(1)), (2,)], patterns=count)
             yield f"{what}: its own, crossed before, count {count}", match(again, AA, OLD), matched(2, (1, 2, 3)) if count else NO_MATCH
-            yield f"{what}: its own, crossed before, count {count}", sign(again, AA, AA), allowed_if(count, 2, 2)
+            yield f"{what}: its own, crossed before, count {count}", sign(again, AA, AA), allowed_if(count, 2, 2, 0, 0, 0, 0)
         for count in (0, 1, 2):
             # Tag 1 is crossed first; with count 1 the temporary edge behind it names a named Tag
             other = tree([(1,), (2, naming(1)), (2,)], patterns=count)
             line = walked(2, "/a/a", (1, 2), count) if count else NO_MATCH
             yield f"{what}: another edge's Tag, count {count}", match(other, AA, OLD), line
-            yield f"{what}: another edge's Tag, count {count}", sign(other, AA, AA), allowed_if(count, 2, 2)
+            yield f"{what}: another edge's Tag, count {count}", sign(other, AA, AA), allowed_if(count, 2, 2, 0, 0, 0, 0)
             # the other way round: with count 1 the named edge names a temporary Tag
             line = walked(2, "/a/a", (2, 1), count) if count == 2 else NO_MATCH
             higher = tree([(2,), (1, naming(2)), (2,)], patterns=count)
             yield f"{what}: a higher Tag, count {count}", match(higher, AA, OLD), line
-            yield f"{what}: a higher Tag, count {count}", sign(higher, AA, AA), allowed_if(count == 2, 2, 2)
+            yield f"{what}: a higher Tag, count {count}", sign(higher, AA, AA), allowed_if(count == 2, 2, 2, 0, 0, 0, 0)
             # a Tag of the packet's name, named in the key's
             carried = tree(["p", (1,), (3,)], [(2, naming(1)), ()], patterns=count)
-            yield f"{what}: the packet's Tag, count {count}", sign(carried, path("/p/a"), A_NAME), allowed_if(count, 2, 3)
+            yield f"{what}: the packet's Tag, count {count}", sign(carried, path("/p/a"), A_NAME), allowed_if(count, 2, 3, 0, 0, 1)
             # a Tag of no edge is unbound, whatever it is
             nowhere = tree([(1, naming(2)), (1,)], patterns=count)
             yield f"{what}: a Tag of no edge, count {count}", match(nowhere, A_NAME, OLD), NO_MATCH
@@ -258,8 +264,8 @@ def constraints():
     ):
         for packet, letter in (SLASH_A, "a"), (SLASH_B, "b"):
             yield f"{what}: /{letter}", match(one(*held), packet, OLD), matched(1) if letter in good else NO_MATCH
-            yield f"{what}: /{letter} by itself", sign(one(*held), packet, packet), allowed_if(letter in good, 1, 1)
-        yield f"{what}: /a by /b", sign(one(*held), SLASH_A, SLASH_B), allowed_if(good == "ab", 1, 1)
+            yield f"{what}: /{letter} by itself", sign(one(*held), packet, packet), allowed_if(letter in good, 1, 1, 0, 0)
+        yield f"{what}: /a by /b", sign(one(*held), SLASH_A, SLASH_B), allowed_if(good == "ab", 1, 1, 0, 0)
     for count in (0, 1):
         free = count == 0
         # on the second crossing alone, and others on each
@@ -272,9 +278,9 @@ def constraints():
         yield f"others on each crossing, count {count}: /a/a", match(each, AA, OLD), NO_MATCH
         # in the key's walk
         key = tree(["p", (1,), (3,)], [(1, must_be("b")), ()], patterns=count)
-        yield f"in the key, count {count}: /p/a by /b", sign(key, path("/p/a"), SLASH_B), allowed_if(free, 2, 3)
-        yield f"in the key, count {count}: /p/b by /b", sign(key, path("/p/b"), SLASH_B), "allowed 2 3"
-        yield f"in the key, count {count}: /p/a by /a", sign(key, path("/p/a"), SLASH_A), "not allowed"
+        yield f"in the key, count {count}: /p/a by /b", sign(key, path("/p/a"), SLASH_B), allowed_if(free, 2, 3, 0, 0, 1)
+        yield f"in the key, count {count}: /p/b by /b", sign(key, path("/p/b"), SLASH_B), allowed(2, 3, 0, 0, 1)
+        yield f"in the key, count {count}: /p/a by /a", sign(key, path("/p/a"), SLASH_A), NOT_ALLOWED
 
 
 def functions():
@@ -295,8 +301,8 @@ def functions():
             ):
                 yield f"{function}, {what}, count {count}", match(twice, name(*texts), OLD), line
             other = name(second, second)
-            yield f"{function}, another key, count {count}", sign(twice, name(first, first), other), allowed_if(not count, 2, 2)
-            yield f"{function}, a key that is longer, count {count}", sign(twice, name(first, first), name(first, longer)), "not allowed"
+            yield f"{function}, another key, count {count}", sign(twice, name(first, first), other), allowed_if(not count, 2, 2, 0, 0, 0, 0)
+            yield f"{function}, a key that is longer, count {count}", sign(twice, name(first, first), name(first, longer)), NOT_ALLOWED
 
 
 # the search
@@ -318,13 +324,13 @@ def backtracking():
         yield f"a binding of a failed branch, count {count}", match(of, path("/a/b/c"), OLD), walked(6, "/a/b/c", (3, 2, 1), count)
         # the packet's first match binds Tag 1, where it is named; the second does not
         of = tree([(1,), "p", (6,)], [(2,), "p", (6,)], ["k", (1,), ()], patterns=count)
-        line = "allowed 2 6" if count == 0 else "allowed 4 6"
+        line = allowed(2, 6, 1, 0, 0, 0) if count == 0 else allowed(4, 6, 2, 0, 0, 0)
         yield f"the packet's second match, count {count}", sign(of, path("/a/p"), path("/k/b")), line
-        yield f"the packet's first match, count {count}", sign(of, path("/a/p"), path("/k/a")), "allowed 2 6"
+        yield f"the packet's first match, count {count}", sign(of, path("/a/p"), path("/k/a")), allowed(2, 6, 1, 0, 0, 0)
         # the key's first branch fails behind its Tag
         of = tree(["p", (1,), (7,)], ["k", (1,), "x", ()], ["k", (2,), (1,), ()], patterns=count)
-        yield f"the key's second branch, count {count}", sign(of, path("/p/a"), path("/k/b/c")), allowed_if(count == 0, 2, 7)
-        yield f"the key's second branch, bound alike, count {count}", sign(of, path("/p/a"), path("/k/b/a")), "allowed 2 7"
+        yield f"the key's second branch, count {count}", sign(of, path("/p/a"), path("/k/b/c")), allowed_if(count == 0, 2, 7, 0, 0, 1, 1, 0)
+        yield f"the key's second branch, bound alike, count {count}", sign(of, path("/p/a"), path("/k/b/a")), allowed(2, 7, 0, 0, 1, 1, 0)
 
 
 def order():
@@ -353,9 +359,11 @@ def order():
             ["k", (1,), ()],
             patterns=count,
         )
-        for uri, at in ("/a/c", 2), ("/b/c", 4), ("/c/d", 6), ("/a/d", 6), ("/b/d", 4):
+        # of Node 0's edges the first is "k"
+        for uri, at, edge in ("/a/c", 2, 1), ("/b/c", 4, 2), ("/c/d", 6, 3), ("/a/d", 6, 3), ("/b/d", 4, 2):
             yield f"edges that share a Tag, {uri}, count {count}", match(of, path(uri), OLD), NO_MATCH if count else matched(at)
-            yield f"edges that share a Tag, {uri} by /k/x, count {count}", sign(of, path(uri), path("/k/x")), allowed_if(not count, at, 8)
+            line = allowed_if(not count, at, 8, edge, 0, 0, 0)
+            yield f"edges that share a Tag, {uri} by /k/x, count {count}", sign(of, path(uri), path("/k/x")), line
         for uri, at in ("/b/b", 4), ("/d/d", 6):
             yield f"edges that share a Tag, {uri}, count {count}", match(of, path(uri), OLD), walked(at, uri, (1, 1), count)
         yield f"edges that share a Tag, /a/a, count {count}", match(of, AA, OLD), NO_MATCH
@@ -415,7 +423,7 @@ def answers_of_b(what, of, count):
     named = count >= 1
     yield what, verdict(of), "accepted 2"
     yield what, match(of, SLASH_A, OLD), matched(1, (1, 2, 3)) if named else matched(1)
-    yield what, sign(of, SLASH_A, SLASH_B), allowed_if(not named, 1, 1)
+    yield what, sign(of, SLASH_A, SLASH_B), allowed_if(not named, 1, 1, 0, 0)
     yield what, suggest(of, SLASH_A, SLASH_B, SLASH_A), certificate(1 if named else 0)
 
 
@@ -444,12 +452,12 @@ def gaps():
     yield "no optional element, and a Constraint that refuses", match(temporary, path("/v/x"), OLD), NO_MATCH
     for i, of in enumerate(put_in(temporary, bytes.fromhex("80028100"))):
         yield f"an optional element in gap {i}", match(of, PACKET, OLD), matched(2)
-        yield f"an optional element in gap {i}", sign(of, PACKET, PACKET), "allowed 2 2"
+        yield f"an optional element in gap {i}", sign(of, PACKET, PACKET), allowed(2, 2, 0, 0, 0, 0)
     for spare in OPTIONAL:
         of = put_everywhere(temporary, bytes.fromhex(spare))
         yield f"{spare} in every gap", match(of, PACKET, OLD), matched(2)
         yield f"{spare} in every gap, and a Constraint that refuses", match(of, path("/v/x"), OLD), NO_MATCH
-        yield f"{spare} in every gap", sign(of, PACKET, PACKET), "allowed 2 2"
+        yield f"{spare} in every gap", sign(of, PACKET, PACKET), allowed(2, 2, 0, 0, 0, 0)
         yield from answers_of_b(f"{spare} in every gap of B, count 0", put_everywhere(with_count(B, 0), bytes.fromhex(spare)), 0)
 
 
@@ -484,7 +492,7 @@ def unchanged():
         for count in (0, 1):
             of = with_count(B, count) + b"".join(symbol(*one) for one in symbols)
             yield f"TagSymbols {what}, count {count}", match(of, SLASH_A, OLD), matched(1, (1, 2, 3)) if count else matched(1)
-            yield f"TagSymbols {what}, count {count}", sign(of, SLASH_A, SLASH_B), allowed_if(not count, 1, 1)
+            yield f"TagSymbols {what}, count {count}", sign(of, SLASH_A, SLASH_B), allowed_if(not count, 1, 1, 0, 0)
     lists_of_b = [0, 0, 2, *(0, 0, 0, 0, 1, 1, 1, 0, 0), *(1, 1, 0, 0, 0, 0, 1, 1), 0]
     yield from both("B, count 0", Part(lists_of_b, b"", with_count(B, 0)))
 
@@ -509,11 +517,12 @@ QUICK_STILL, TUTORIAL_STILL = {1}, {7}
 
 def checks(what, of, count, of_003, still):
     """003's checks on a model of these rules, and on the same with every Tag named."""
+    edges = QUICK_EDGES if count == QUICK_COUNT else TUTORIAL_EDGES
     yield what, verdict(of), f"accepted {23 if count == QUICK_COUNT else 29}"
     for i, (packet, by, answer) in enumerate(of_003, 1):
-        yield f"{what}, check {i}", sign(of, path(packet), path(by)), answer
+        yield f"{what}, check {i}", sign(of, path(packet), path(by)), with_path(answer, edges)
         for more in (128, LARGEST):
-            line = answer if i in still else "not allowed"
+            line = with_path(answer if i in still else "not allowed", edges)
             yield f"{what}, check {i}, count {more}", sign(with_count(of, more), path(packet), path(by)), line
 
 
@@ -525,6 +534,11 @@ def shared():
     yield from checks("quick example, one temporary Tag", QUICK_SINGLE, QUICK_COUNT, QUICK_CHECKS, ())
     yield from checks("tutorial, a Tag for each identifier", TUTORIAL_IDENTIFIERS, TUTORIAL_COUNT, TUTORIAL_CHECKS, ())
     yield from checks("tutorial, one temporary Tag", TUTORIAL_SINGLE, TUTORIAL_COUNT, TUTORIAL_CHECKS, ())
+
+
+def ended_if(holds, packet_node, key_node, edges):
+    """The line of a pair of rules, by the edges to each rule's end."""
+    return allowed_if(holds, packet_node, key_node, *edges[packet_node], *edges[key_node])
 
 
 ISSUERS = ("1/admin/1", "1/root/1", "2/admin/1", "1/admin/2", "2/root/3")
@@ -542,27 +556,30 @@ def issuers():
                 parts = list(zip(mine.split("/"), theirs.split("/")))
                 holds = all(a == b for a, b in parts[: max(0, count - QUICK_COUNT)])
                 author, admin = path(f"/a/blog/author/xinyu/KEY/{mine}"), path(f"/a/blog/admin/admin/KEY/{theirs}")
-                yield f"author {mine} by admin {theirs}, count {count}", sign(of, author, admin), allowed_if(holds, AUTHOR, ADMIN)
+                line = ended_if(holds, AUTHOR, ADMIN, QUICK_EDGES)
+                yield f"author {mine} by admin {theirs}, count {count}", sign(of, author, admin), line
                 admin, root = path(f"/a/blog/admin/admin/KEY/{mine}"), path(f"/a/blog/KEY/{theirs}")
-                yield f"admin {mine} by root {theirs}, count {count}", sign(of, admin, root), allowed_if(holds, ADMIN, ROOT)
+                line = ended_if(holds, ADMIN, ROOT, QUICK_EDGES)
+                yield f"admin {mine} by root {theirs}, count {count}", sign(of, admin, root), line
                 # the root signs no author, however the parts agree
-                yield f"author {mine} by root {theirs}, count {count}", sign(of, author, root), "not allowed"
+                yield f"author {mine} by root {theirs}, count {count}", sign(of, author, root), NOT_ALLOWED
     # the same story by the tutorial, with one Tag for _role too: count 5 names that
     for count in (TUTORIAL_COUNT, 5, 128):
         of = with_count(TUTORIAL_IDENTIFIERS, count)
         for role, at in ("author", T_AUTHOR), ("reader", T_USER):
             for issuer in ("1/000001/1", "1/root/1", "x/x/x"):
                 packet = path(f"/ndn/blog/{role}/100001/KEY/{issuer}")
-                yield f"{role} {issuer} by an admin, count {count}", sign(of, packet, path(ADMIN_KEY)), allowed_if(count == TUTORIAL_COUNT, at, T_ADMIN)
+                line = ended_if(count == TUTORIAL_COUNT, at, T_ADMIN, TUTORIAL_EDGES)
+                yield f"{role} {issuer} by an admin, count {count}", sign(of, packet, path(ADMIN_KEY)), line
         # the article has no _role, and its key's is compared with nothing; with every Tag named the key's three parts must be equal
         article = path("/ndn/blog/100001/post/2022/1")
         for issuer in ("1/000001/1", "x/x/x"):
             key = path(f"/ndn/blog/author/100001/KEY/{issuer}")
             holds = count < 6 or issuer == "x/x/x"
-            yield f"an article by {issuer}, count {count}", sign(of, article, key), allowed_if(holds, T_ARTICLE, T_AUTHOR)
+            yield f"an article by {issuer}, count {count}", sign(of, article, key), ended_if(holds, T_ARTICLE, T_AUTHOR, TUTORIAL_EDGES)
         # a named pattern is compared as ever
         key = path("/ndn/blog/author/100002/KEY/1/1/1")
-        yield f"an article by another author, count {count}", sign(of, article, key), "not allowed"
+        yield f"an article by another author, count {count}", sign(of, article, key), NOT_ALLOWED
 
 
 def bindings_of_keys():

@@ -10,7 +10,7 @@ def left_behind():
     # the first branch binds Tag 1 to a and fails at "x"; the second needs Tag 1 for b
     rebound = tree([(1,), "x", ()], [(2,), (1,), (4,)])
     yield "slip 1: a Tag bound in a failed branch", match(rebound, AB, OLD), matched(4, (1, 5, 3), (2, 2, 3))
-    yield "slip 1: the same in both names", sign(rebound, AB, AB), "allowed 4 4"
+    yield "slip 1: the same in both names", sign(rebound, AB, AB), allowed(4, 4, 1, 0, 1, 0)
     # the failed branch's Tag is not among the bound ones
     unused = tree([(1,), "x", ()], [(2,), (3,), ()])
     yield "slip 1: a failed branch leaves no word", match(unused, AB, OLD), matched(4, (2, 2, 3), (3, 5, 3))
@@ -24,7 +24,7 @@ def left_behind():
     yield "slip 1: and still counts", match(kept_tag, path("/a/b/c"), OLD), kept("no match")
     # the packet's first match binds Tag 1, which its second does not: the key needs Tag 1 for another component
     packets = tree([(1,), "p", ()], [(2,), "p", (6,)], ["k", (1,), ()])
-    yield "slip 1: the packet's first match", sign(packets, path("/a/p"), path("/k/b")), "allowed 4 6"
+    yield "slip 1: the packet's first match", sign(packets, path("/a/p"), path("/k/b")), allowed(4, 6, 2, 0, 0, 0)
     # the key's failed walk from the first packet match binds Tag 3 to b
     keys = model(
         node(0, value_edge(5, "k"), pattern_edge(1, 1), pattern_edge(3, 2)),
@@ -39,29 +39,29 @@ def left_behind():
         node(9, parent(6)),
         patterns=4,
     )
-    yield "slip 1: in the key's walk", sign(keys, path("/a/p"), path("/k/b/c")), "allowed 4 8"
+    yield "slip 1: in the key's walk", sign(keys, path("/a/p"), path("/k/b/c")), allowed(4, 8, 2, 0, 0, 1, 0)
 
 
 def first_match_only():
     """Looking for the key only from the packet's first match."""
     # /a/p matches Node 2 first, which has no signer
     unsigned = tree([(1,), "p", ()], [(2,), "p", (6,)], ["k", "b", ()])
-    yield "slip 2: the first match has no signer", sign(unsigned, path("/a/p"), path("/k/b")), "allowed 4 6"
+    yield "slip 2: the first match has no signer", sign(unsigned, path("/a/p"), path("/k/b")), allowed(4, 6, 2, 0, 0, 0)
     # the first match's signer wants the key's component equal to Tag 1, the second's to Tag 2
     other = tree([(1,), (2,), (6,)], [(2,), (1,), (6,)], ["k", (1,), ()])
-    yield "slip 2: the first match binds otherwise", sign(other, AB, path("/k/a")), "allowed 2 6"
-    yield "slip 2: only the second match's bindings fit", sign(other, AB, path("/k/b")), "allowed 4 6"
-    yield "slip 2: no match fits", sign(other, AB, path("/k/c")), "not allowed"
+    yield "slip 2: the first match binds otherwise", sign(other, AB, path("/k/a")), allowed(2, 6, 1, 0, 0, 0)
+    yield "slip 2: only the second match's bindings fit", sign(other, AB, path("/k/b")), allowed(4, 6, 2, 0, 0, 0)
+    yield "slip 2: no match fits", sign(other, AB, path("/k/c")), NOT_ALLOWED
     # likewise the key's first match is not the only one
     second_key = tree(["p", (5,)], [(1,), "b", ()], [(2,), "b", ()])
-    yield "slip 2: the key's second match", sign(second_key, path("/p"), path("/k/b")), "allowed 1 5"
+    yield "slip 2: the key's second match", sign(second_key, path("/p"), path("/k/b")), allowed(1, 5, 0, 2, 0)
 
 
 def bound_too_soon():
     """Binding the Tag before its own Constraints are tried."""
     own = tree([(1, constraint(option(tag(1)))), (1,)])
     yield "slip 3: an option with the edge's own Tag", match(own, path("/a"), OLD), kept("no match")
-    yield "slip 3: an option with the edge's own Tag", sign(own, path("/a"), path("/a")), "not allowed"
+    yield "slip 3: an option with the edge's own Tag", sign(own, path("/a"), path("/a")), NOT_ALLOWED
     for function in "$eq", "$eq_type":
         own = tree([(1, constraint(option(call(function, tag(1))))), ()])
         yield f"slip 3: {function} of the edge's own Tag", match(own, path("/a"), OLD), kept("no match")
@@ -70,8 +70,8 @@ def bound_too_soon():
     yield "slip 3: its own Tag, bound before", match(again, path("/a/a"), OLD), matched(2, (1, 2, 3))
     # or by the packet, where the key is walked
     chain = tree(["p", (1,), (3,)], [(1, constraint(option(tag(1)))), ()])
-    yield "slip 3: its own Tag, bound by the packet", sign(chain, path("/p/a"), path("/a")), "allowed 2 3"
-    yield "slip 3: bound to another component", sign(chain, path("/p/a"), path("/b")), "not allowed"
+    yield "slip 3: its own Tag, bound by the packet", sign(chain, path("/p/a"), path("/a")), allowed(2, 3, 0, 0, 1)
+    yield "slip 3: bound to another component", sign(chain, path("/p/a"), path("/b")), NOT_ALLOWED
 
 
 def parents():
@@ -80,25 +80,25 @@ def parents():
     for length in range(4):
         yield f"mutual parents, {length} components", match(LOOP, name(*["a"] * length), OLD), matched(length % 2)
     yield "mutual parents, another component", match(LOOP, path("/a/a/b"), OLD), kept("no match")
-    yield "mutual parents, signing", sign(LOOP, path("/a/a/a"), path("/a/a")), "allowed 1 0"
+    yield "mutual parents, signing", sign(LOOP, path("/a/a/a"), path("/a/a")), allowed(1, 0, 0, 0, 0, 0, 0)
     # a Node that is its own parent, with a Tag that each turn has to keep
     itself = model(node(0, parent(0), pattern_edge(0, 1), signer(0)), patterns=1)
     yield "its own parent", match(itself, path("/a/a/a"), OLD), matched(0, (1, 2, 3))
     yield "its own parent, another component", match(itself, path("/a/a/b"), OLD), kept("no match")
-    yield "its own parent, signing", sign(itself, path("/a"), path("/a/a")), "allowed 0 0"
+    yield "its own parent, signing", sign(itself, path("/a"), path("/a/a")), allowed(0, 0, 0, 0, 0)
 
 
 def later_branches():
     """The allowed pair is found only in a later branch."""
     # by value: p then any; by pattern: any then q. The second alone has a signer, and the key's walk fails once too
     later = tree(["p", (1,), ()], [(2,), "q", (8,)], ["k", (2,), "x", ()], ["k", (3,), ()])
-    yield "the pattern branch", sign(later, path("/p/q"), path("/k/z")), "allowed 4 8"
-    yield "a later key branch", sign(later, path("/p/q"), path("/k/p")), "allowed 4 8"
-    yield "no branch", sign(later, path("/p/r"), path("/k/z")), "not allowed"
+    yield "the pattern branch", sign(later, path("/p/q"), path("/k/z")), allowed(4, 8, 2, 0, 1, 1)
+    yield "a later key branch", sign(later, path("/p/q"), path("/k/p")), allowed(4, 8, 2, 0, 1, 1)
+    yield "no branch", sign(later, path("/p/r"), path("/k/z")), NOT_ALLOWED
     # the first node that is reached has signers, but none of them is the key
     first = tree(["p", (3,)], [(1,), (4,)], ["k1", ()], ["k2", ()])
-    yield "the first match's key", sign(first, path("/p"), path("/k1")), "allowed 1 3"
-    yield "the second match's key", sign(first, path("/p"), path("/k2")), "allowed 2 4"
+    yield "the first match's key", sign(first, path("/p"), path("/k1")), allowed(1, 3, 0, 1)
+    yield "the second match's key", sign(first, path("/p"), path("/k2")), allowed(2, 4, 3, 2)
 
 
 def order():
@@ -114,8 +114,8 @@ def order():
     yield "equal ValueEdges, the second", match(equal, AB, OLD), matched(3)
     # the order of the signers decides nothing: the key's matches do
     signers = tree(["p", (3, 2)], ["k", ()], [(1,), ()])
-    yield "the key's first match", sign(signers, path("/p"), path("/k")), "allowed 1 2"
-    yield "a signer twice", sign(tree(["p", (2, 2)], ["k", ()]), path("/p"), path("/k")), "allowed 1 2"
+    yield "the key's first match", sign(signers, path("/p"), path("/k")), allowed(1, 2, 0, 1)
+    yield "a signer twice", sign(tree(["p", (2, 2)], ["k", ()]), path("/p"), path("/k")), allowed(1, 2, 0, 1)
     # a first match is the answer, though a later one would bind more
     yield "the first match alone", match(tree([(1,), "b", ()], [(2,), (3,), ()]), AB, OLD), matched(2, (1, 2, 3))
 
@@ -126,7 +126,7 @@ def starts():
     yield "the empty name", match(second, name(), OLD), matched(1)
     yield "from StartId", match(second, path("/b"), OLD), matched(2)
     yield "not from Node 0", match(second, AB, OLD), kept("no match")
-    yield "empty by empty", sign(second, name(), name()), "allowed 1 1"
+    yield "empty by empty", sign(second, name(), name()), allowed(1, 1)
     yield "a longer name than any path", match(second, path("/b/c"), OLD), kept("no match")
 
 
@@ -140,7 +140,7 @@ def bindings():
     yield "a ValueEdge of another type", match(tree(["a", ()]), name(component("a", 9)), OLD), kept("no match")
     yield "a type of three bytes", match(tree([(1,), ()]), name(component("a", 300)), OLD), matched(1, (1, 2, 5))
     # a key's binding is not the packet's: Tag 2 is bound by the key alone
-    yield "a key binds its own", sign(tree(["p", (2,)], [(2,), ()]), path("/p"), path("/k")), "allowed 1 2"
+    yield "a key binds its own", sign(tree(["p", (2,)], [(2,), ()]), path("/p"), path("/k")), allowed(1, 2, 0, 1)
 
 
 def constraints():
@@ -165,8 +165,8 @@ def constraints():
     yield "a bound Tag's Constraint", match(again, aa, OLD), kept("no match")
     yield "a bound Tag's Constraint, met", match(again, path("/b/b"), OLD), matched(2, (1, 2, 3))
     chain = tree(["p", (1,), (3,)], [(1, must_be("b")), ()])
-    yield "a Constraint in the key's walk", sign(chain, path("/p/a"), path("/a")), "not allowed"
-    yield "and met", sign(chain, path("/p/b"), path("/b")), "allowed 2 3"
+    yield "a Constraint in the key's walk", sign(chain, path("/p/a"), path("/a")), NOT_ALLOWED
+    yield "and met", sign(chain, path("/p/b"), path("/b")), allowed(2, 3, 0, 0, 1)
 
 
 def functions():
@@ -209,7 +209,7 @@ def texts():
             behind=b"".join(symbol(*s) for s in symbols),
         )
         yield f"RuleNames and TagSymbols: {what}", match(named, path("/a"), OLD), matched(1, (1, 2, 3))
-        yield f"RuleNames and TagSymbols: {what}", sign(named, path("/a"), path("/a")), "allowed 1 1"
+        yield f"RuleNames and TagSymbols: {what}", sign(named, path("/a"), path("/a")), allowed(1, 1, 0, 0)
 
 
 def cases():

@@ -8,6 +8,8 @@ from .errors import NO, REFUSED, YES, Failure
 from .refusals import refusal
 
 WORDS = 256  # of the binding buffer: two for each Tag
+MOST_COMPONENTS = 32  # of a name
+PATH_WORDS = 2 * MOST_COMPONENTS  # lent for a path: enough for any two names
 
 
 def counted(n, what):
@@ -66,19 +68,31 @@ class NoMatch(Answer, namedtuple("Numbers", "")):
     answer, status = "no match", NO
 
 
-class Allowed(Answer, namedtuple("Numbers", "packet_node key_node")):
+class Allowed(Answer, namedtuple("Numbers", "packet_node key_node buffer")):
+    """The buffer begins with the path, a word for each component of the two names."""
+
     answer, status = "allowed", YES
 
     def words(self, labels):
         return f"allowed: packet at {labels.node(self.packet_node)}, key at {labels.node(self.key_node)}"
 
     def object(self, labels):
-        rules = {"packet_rules": labels.rules(self.packet_node), "key_rules": labels.rules(self.key_node)}
-        return {**super().object(), **rules}
+        nodes = {"packet_node": self.packet_node, "key_node": self.key_node}
+        return {"answer": self.answer, **nodes, "packet_rules": labels.rules(self.packet_node), "key_rules": labels.rules(self.key_node)}
 
 
 class NotAllowed(Answer, namedtuple("Numbers", "")):
     answer, status = "not allowed", NO
+
+
+class Followed(Answer, namedtuple("Numbers", "")):
+    """A path is one of an allowed pair."""
+
+    answer, status = "accepted", YES
+
+
+class NotFollowed(Answer, namedtuple("Numbers", "")):
+    answer, status = "no", NO
 
 
 class Certificate(Answer, namedtuple("Numbers", "index")):
@@ -128,10 +142,14 @@ def read_answer(line):
         return Match(*numbers[:2], tuple(numbers[2:]))
     if words[:2] == ["no", "match"]:
         return NoMatch()
-    if words[:1] == ["allowed"] and len(numbers) == 2:
-        return Allowed(*numbers)
-    if words == ["not", "allowed"]:
+    if words[:1] == ["allowed"] and len(numbers) == 2 + PATH_WORDS:
+        return Allowed(*numbers[:2], tuple(numbers[2:]))
+    if words[:2] == ["not", "allowed"]:
         return NotAllowed()
+    if words == ["accepted"]:
+        return Followed()
+    if words == ["no"]:
+        return NotFollowed()
     if words[:1] == ["certificate"] and len(numbers) == 1:
         return Certificate(*numbers)
     if words == ["none"]:

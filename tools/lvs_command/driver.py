@@ -8,7 +8,8 @@ import subprocess
 import time
 from typing import NamedTuple
 
-from .answers import WORDS, Refused, counted, read_answer
+from .answers import Accepted, Allowed, Certificate, Described, Followed, Match, NoCertificate, NoMatch, NotAllowed, NotFollowed, Refused, Written
+from .answers import PATH_WORDS, WORDS, counted, no_answer, read_answer
 from .errors import Failure, say
 from .refusals import LISTS
 
@@ -31,7 +32,20 @@ class Field(NamedTuple):
 MODEL, PACKET, KEY = Field(65536, 1), Field(4096, 21), Field(4096, 24)
 LIST, MOST_ENTRIES = Field(65536, 32), 64  # a list of certificate names
 SHORTEST_ENTRY = b"\x07\x00"
+LONGEST_PATH = 2048  # words of a path that the driver takes
 NUMBERS, TEXTS, OUTPUT = 8192, 65536, 65536  # numbers and bytes of a description, and bytes of what is written, that the driver takes
+
+
+# what a case may be answered with, by its letter, besides a refusal
+ANSWERS = {
+    "V": Accepted,
+    "M": (Match, NoMatch),
+    "S": (Allowed, NotAllowed),
+    "P": (Followed, NotFollowed),
+    "C": (Certificate, NoCertificate),
+    "D": Described,
+    "W": Written,
+}
 
 
 def verdict_case(model):
@@ -43,7 +57,13 @@ def match_case(model, name):
 
 
 def sign_case(model, packet, key):
-    return "S", ((MODEL, model), (PACKET, packet), (KEY, key))
+    return "S", ((MODEL, model), (PACKET, packet), (KEY, key), (None, bytes(2 * PATH_WORDS)))
+
+
+def follow_case(model, packet, key, path):
+    """Of a path that is longer than the driver takes the beginning is given: that has too many words for any two names as well."""
+    words = path[:LONGEST_PATH]
+    return "P", ((MODEL, model), (PACKET, packet), (KEY, key), (None, struct.pack(f">{len(words)}H", *words)))
 
 
 def suggest_case(model, packet, entries):
@@ -77,8 +97,11 @@ def written(case):
 
 
 def answer_of(case, line):
+    letter, fields = case
     answer = read_answer(line)
-    for field, data in case[1]:
+    if not isinstance(answer, (Refused, ANSWERS[letter])):
+        no_answer(line)
+    for field, data in fields:
         if field and len(data) > field.longest:
             if not isinstance(answer, Refused) or answer.number > field.refusal:
                 raise Failure(f"lvs_cases takes only {field.longest:,} bytes of this input, and answers {line[:60]!r}")

@@ -2,11 +2,11 @@
 import signal
 import sys
 
-from . import build, judge, match, show, sign, suggest, tree
+from . import build, follow, judge, match, show, sign, suggest, tree
 from .errors import ERROR, Failure, say
 from .parser import Parser
 
-SUBCOMMANDS = judge, match, sign, suggest, tree, show, build
+SUBCOMMANDS = judge, match, sign, follow, suggest, tree, show, build
 
 DESCRIPTION = "Asks and changes compiled Light VerSec (LVS) models. The answers are the proved library's."
 EPILOG = """\
@@ -16,10 +16,10 @@ MODEL is a file, or - for standard input. A name is a URI, or 0x and bytes in he
 
 exit status:
   0  accepted, matched, allowed, suggested, shown or built
-  1  no match, not allowed, or no certificate that may sign
+  1  no match, not allowed, a path that is not accepted, or no certificate that may sign
   2  refused: the answer has the refusal number and what it means
-  3  no answer: wrong usage, a malformed URI, a mistake in a text or a list, a file that cannot be
-     read or written, a failed build
+  3  no answer: wrong usage, a malformed URI or path, a mistake in a text or a list, a file that
+     cannot be read or written, a failed build
 """
 
 

@@ -196,6 +196,11 @@ class Labels:
         alone = list(self.symbols.values()).count(symbol) == 1
         return symbol if alone else f"{symbol} (tag {n})"
 
+    def pattern(self, n):
+        """A Tag with its number, and with its symbol where it has one."""
+        text = self.tag(n)
+        return text if f"tag {n}" in text else f"{text} (tag {n})"
+
     def term(self, term):
         if isinstance(term, Value):
             return f'"{term.component}"'

@@ -31,6 +31,7 @@ REFUSALS = {
     31: Refusal("the buffer for the model is too short"),
     32: Refusal("this entry of the list is no key name: it is malformed, longer than 1,024 bytes, or has more than 32 components", "entry"),
     33: Refusal("the list has more than 64 entries"),
+    34: Refusal("the buffer for the path has fewer words than the two names have components"),
 }
 
 MALFORMED = 2

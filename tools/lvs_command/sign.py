@@ -5,21 +5,50 @@ import sys
 from name import pair, word_lines
 
 from . import driver
-from .answers import Refused, counted
+from .answers import Allowed, Refused, counted
 from .errors import ERROR, YES, Failure, say
 from .model import Labels
 from .parser import add_command, input_lines, model_bytes, name_bytes, print_object, printable, show, standard_input
+from .path import AllowedPath
 
 DETAILS = """\
 example:
   $ lvs sign example/model.lvs /ndn/blog/100001/post/2022/1 /ndn/blog/author/100001/KEY/1/000001/1
   allowed: packet at node 28, key at node 18
 
+With --path an allowed pair is answered with its path too, edge by edge: the node, the ordinal
+of its edge, whether that is for a value or has a pattern, the component that crosses it, and
+the node behind it. An ordinal counts all edges of a node from 0, those for a value first. The
+last line has the ordinals alone: `lvs follow` takes them, and checks them without a search.
+
+  $ lvs sign --path example/model.lvs /ndn/blog/admin/000001/KEY/1/root/1 /ndn/blog/KEY/1/self/1
+  allowed: packet at node 12, key at node 6
+    packet:
+      node 0, edge 0, value: ndn -> node 1
+      node 1, edge 0, value: blog -> node 2
+      node 2, edge 1, pattern _ (tag 8): admin -> node 7
+      node 7, edge 0, pattern tag 1: 000001 -> node 8
+      node 8, edge 0, value: KEY -> node 9
+      node 9, edge 0, pattern _ (tag 9): 1 -> node 10
+      node 10, edge 0, pattern _ (tag 10): root -> node 11
+      node 11, edge 0, pattern _ (tag 11): 1 -> node 12
+    key:
+      node 0, edge 0, value: ndn -> node 1
+      node 1, edge 0, value: blog -> node 2
+      node 2, edge 0, value: KEY -> node 3
+      node 3, edge 0, pattern _ (tag 5): 1 -> node 4
+      node 4, edge 0, pattern _ (tag 6): self -> node 5
+      node 5, edge 0, pattern _ (tag 7): 1 -> node 6
+    path 0,0,1,0,0,0,0,0,0,0,0,0,0,0
+
+The answer and the ordinals are the proved call's. The nodes, kinds and tags of the edges are a
+display of the model's bytes and are not proved.
+
 With - in place of the names, each line of standard input has a packet name and a key name,
 with blanks between; empty lines and those that begin with # are skipped. A pair's answer is
-one line: the line number, the answer, the names. A malformed line gets an error on standard
-error (with --json, an object), and the rest is still answered. Of a refused model there is
-the refusal only.
+one line: the line number, the answer, the names, and with --path the ordinals of an allowed
+pair. A malformed line gets an error on standard error (with --json, an object), and the rest
+is still answered. Of a refused model there is the refusal only.
 
   $ lvs sign example/model.lvs - <example/requests.txt | head -n 2
      3  allowed: packet at node 12, key at node 6     /ndn/blog/admin/000001/KEY/1/root/1  by  /ndn/blog/KEY/1/self/1
@@ -34,6 +63,7 @@ RUN_PAIRS, RUN_BYTES = 2000, 1 << 23  # for one run of the driver: pairs, and by
 
 def add(commands):
     command = add_command(commands, "sign", run, "Say whether a key may sign a packet, by their names.", DETAILS)
+    command.add_argument("--path", action="store_true", help="print the path of an allowed pair, edge by edge")
     command.add_argument("packet", metavar="PACKET", help="the packet's name, or - for pairs of names from standard input")
     command.add_argument("key", metavar="KEY", nargs="?", help="the key's name, where the packet's is given")
 
@@ -49,18 +79,26 @@ def run(args):
         args.parser.error("the following arguments are required: KEY")
     model = model_bytes(args.model)
     packet, key = name_bytes(args.packet, "packet name"), name_bytes(args.key, "key name")
-    return show(args, driver.ask([driver.sign_case(model, packet, key)])[0], Labels(model))
+    answer, labels = driver.ask([driver.sign_case(model, packet, key)])[0], Labels(model)
+    path = path_of(args, answer, labels, packet, key)
+    return show(args, answer, labels, path and path.object(), path.lines() if path else ())
+
+
+def path_of(args, answer, labels, packet, key):
+    """The path that is to be shown, or None."""
+    return AllowedPath(answer, labels, packet, key) if args.path and isinstance(answer, Allowed) else None
 
 
 class Line:
-    """A line of the input that is to be answered: its number and words, and its case or what is wrong with it."""
+    """A line of the input that is to be answered: its number and words, and its names and case or what is wrong with it."""
 
     def __init__(self, number, words, model):
         self.number, self.words = number, words
-        self.case = self.error = None
+        self.names = self.case = self.error = None
         try:
             packet, key = pair(words)
-            self.case = driver.sign_case(model, name_bytes(packet, "packet name"), name_bytes(key, "key name"))
+            self.names = name_bytes(packet, "packet name"), name_bytes(key, "key name")
+            self.case = driver.sign_case(model, *self.names)
         except (Failure, ValueError) as fault:
             self.error = str(fault)
 
@@ -96,10 +134,12 @@ def runs(lines, model_size):
 
 def show_line(args, line, answer, labels):
     packet, key = line.words
+    path = path_of(args, answer, labels, *line.names)
     if args.json:
-        print_object({"line": line.number, "packet": packet, "key": key, **answer.object(labels)})
+        print_object({"line": line.number, "packet": packet, "key": key, **answer.object(labels), **(path.object() if path else {})})
     else:
-        print(f"{line.number:>4}  {answer.words(labels):<44}  {printable(packet)}  by  {printable(key)}")
+        ordinals = f"  {path.line()}" if path else ""
+        print(f"{line.number:>4}  {answer.words(labels):<44}  {printable(packet)}  by  {printable(key)}{ordinals}")
     return answer.status
 
 

@@ -1,6 +1,6 @@
 //! Demand 3 as cases: what unknown elements and another version change.
 //!
-//! For each generated case whose model is read, of each of the four calls: the
+//! For each generated case whose model is read, of each of the five calls: the
 //! case itself, the same with its bare model, with an optional element in each
 //! gap, with a critical one in each gap (in a model with many, evenly spread),
 //! which is refused at the place where it starts, and with another version.
@@ -21,7 +21,8 @@ use lvs_reference::{bare, gaps, insert_element, Gap};
 const MAX_MODEL: usize = 32_768;
 /// In models with more gaps every second, third .. of them is taken.
 const MAX_GAPS: usize = 64;
-/// Of every so many calls one more has a list of certificates.
+/// For every so many calls there is one more with a list of certificates, and one
+/// with a path.
 const CALLS: u64 = 4;
 
 fn main() -> ExitCode {
@@ -50,8 +51,9 @@ fn write_all(seed: u64, count: u64, lines: &str) -> io::Result<()> {
     let mut out = BufWriter::with_capacity(1 << 16, io::stdout().lock());
     let mut lines = BufWriter::new(File::create(lines)?);
     let with_lists = (0..count / CALLS).map(|index| gen::certificate_case(seed, index));
+    let with_paths = (0..count / CALLS).map(|index| gen::path_case(seed, index));
     let cases = (0..count).map(|index| gen::case(seed, index));
-    for (index, case) in (0..).zip(cases.chain(with_lists)) {
+    for (index, case) in (0..).zip(cases.chain(with_lists).chain(with_paths)) {
         let mut random = Random::for_case(!seed, index);
         for (variant, line) in variants(&case, &mut random) {
             variant.write(&mut out)?;
@@ -117,6 +119,7 @@ fn model_of(case: &Case) -> Option<&[u8]> {
         Case::Verdict { model }
         | Case::Match { model, .. }
         | Case::Sign { model, .. }
+        | Case::Follow { model, .. }
         | Case::Describe { model, .. }
         | Case::Certificate { model, .. } => Some(model),
         Case::Write { .. } | Case::Compare { .. } => None,
@@ -129,6 +132,7 @@ fn with_model(case: &Case, other: Vec<u8>) -> Case {
         Case::Verdict { model }
         | Case::Match { model, .. }
         | Case::Sign { model, .. }
+        | Case::Follow { model, .. }
         | Case::Describe { model, .. }
         | Case::Certificate { model, .. } => *model = other,
         Case::Write { .. } | Case::Compare { .. } => {}
@@ -148,8 +152,10 @@ fn line_of(case: &Case) -> String {
 /// The line of a call that refuses with these numbers, and keeps its words.
 fn refused(case: &Case, number: u32, place: usize) -> String {
     let mut line = format!("refused {number} {place}");
-    if let Case::Match { words, .. } = case {
-        line.extend(words.iter().map(|word| format!(" {word}")));
+    match case {
+        Case::Match { words, .. } => line.extend(words.iter().map(|word| format!(" {word}"))),
+        Case::Sign { path, .. } => line.extend(path.iter().map(|word| format!(" {word}"))),
+        _ => {}
     }
     line
 }

@@ -6,7 +6,7 @@ use super::names::{Signing, Style};
 use super::random::Random;
 use super::tree::{encode, Tree};
 use super::work::{self, Models};
-use crate::answers::{sign_loaded, SignAnswer};
+use crate::answers::first_allowed;
 use crate::cases::{Case, MAX_LIST_FIELD};
 use crate::certificates::MAX_ENTRIES;
 use crate::elements::{kind, Element, Part};
@@ -99,8 +99,8 @@ pub fn find_in_sample(random: &mut Random, sample: Sample) -> Case {
     }
 }
 
-/// Few models are refused, so that lists are looked at.
-fn mostly_sound_model(random: &mut Random) -> Sample {
+/// Few models are refused, so that what else a call takes is looked at.
+pub fn mostly_sound_model(random: &mut Random) -> Sample {
     if random.chance(20) {
         return sample(random);
     }
@@ -151,10 +151,9 @@ impl Pool {
     fn of(model: &Model, packet: &[u8], keys: Vec<Vec<u8>>) -> Self {
         let packet = Name::load(packet, Role::Packet).ok();
         let is_allowed = |key: &Name| {
-            packet.as_ref().is_some_and(|packet| {
-                let answer = sign_loaded(model, packet, key);
-                matches!(answer, SignAnswer::Allowed { .. })
-            })
+            packet
+                .as_ref()
+                .is_some_and(|packet| first_allowed(model, packet, key).is_some())
         };
         let mut pool = Pool::default();
         for key in keys {

@@ -7,7 +7,7 @@ use super::sound;
 use crate::cases::MAX_NAME_FIELD;
 use crate::elements::{append_element, append_number, kind};
 use crate::model::{Argument, Model, PatternEdge, Term};
-use crate::names::{Component, PlacedComponent, MAX_COMPONENTS, MAX_NAME_BYTES};
+use crate::names::{Component, Name, PlacedComponent, MAX_COMPONENTS, MAX_NAME_BYTES};
 use crate::walk::{may_cross, Bindings};
 
 /// More candidates than this aren't tried for one edge.
@@ -65,6 +65,13 @@ pub fn sign_names(random: &mut Random, model: &Model) -> (Vec<u8>, Vec<u8>) {
     )
 }
 
+/// A name made from the components of another one.
+pub fn restyled(random: &mut Random, model: &Model, name: &Name, style: Style) -> Vec<u8> {
+    let placed = name.components.iter();
+    let walk: Vec<Component> = placed.map(|placed| placed.component).collect();
+    finish(random, model, &walk, style)
+}
+
 /// The walk of a packet that has signers, if any packet has, and what is
 /// needed to find its keys.
 pub struct Signing<'m> {
@@ -106,6 +113,15 @@ impl<'m> Signing<'m> {
         finish(random, self.walker.model, &walk, style)
     }
 
+    /// The name of a key of one among the signers, if there are any, made without
+    /// regard to what the packet bound.
+    pub fn unbound_key_name(&self, random: &mut Random) -> Vec<u8> {
+        let mut trail = self.trail.clone();
+        trail.clear();
+        let walk = self.walk_to_signer(random, trail);
+        finish(random, self.walker.model, &walk, Style::Exact)
+    }
+
     /// The components of a key, mostly of one among the signers and under the
     /// packet's bindings.
     fn key_walk(&self, random: &mut Random) -> Vec<Component<'m>> {
@@ -117,6 +133,13 @@ impl<'m> Signing<'m> {
             trail.clear();
         }
         trail.slip_percent = *random.pick(&[0, 0, 30]);
+        self.walk_to_signer(random, trail)
+    }
+
+    fn walk_to_signer(&self, random: &mut Random, mut trail: Trail<'m>) -> Vec<Component<'m>> {
+        if self.signers.is_empty() {
+            return self.walker.any_walk(random, &mut trail);
+        }
         let signer = *random.pick(self.signers) as usize;
         match self.walker.path_to(random, signer) {
             Some(path) if random.chance(92) => self.walker.walk_along(random, &path, &mut trail),

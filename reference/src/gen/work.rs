@@ -100,6 +100,12 @@ pub fn shortened(name: &[u8]) -> Vec<u8> {
     out
 }
 
+/// How many components a name may be taken to have, however faulty; of very many
+/// only some are counted.
+pub fn component_count(name: &[u8]) -> usize {
+    readable_components(name).len()
+}
+
 /// What may be taken for the components of a name, however faulty.
 fn readable_components(name: &[u8]) -> Vec<Component<'_>> {
     let mut components = Vec::new();

@@ -2,12 +2,22 @@
 //! out by itself, so that the checker's own constants are put to the test.
 #![allow(dead_code)]
 
+use lvs_reference::SignAnswer;
+
 pub const MODEL_A: &str = "61 04 00 01 10 00 25 01 00 69 01 00 63 03 25 01 00";
 pub const MODEL_B: &str = "61 04 00 01 10 00 25 01 00 69 01 01 63 0B 25 01 00 53 06 25 01 01 \
                            23 01 01 63 09 25 01 01 57 01 00 55 01 01";
 pub const NAME_A: &str = "07 03 08 01 61";
 pub const NAME_B: &str = "07 03 08 01 62";
 pub const EMPTY_NAME: &str = "07 00";
+
+/// As many words as the longest names have components.
+pub const PATH_ROOM: usize = 64;
+
+/// The signing answer where the path doesn't matter: there is room for any.
+pub fn sign(model: &[u8], packet: &[u8], key: &[u8]) -> SignAnswer {
+    lvs_reference::sign(model, packet, key, &mut [0; PATH_ROOM])
+}
 
 /// The bytes of a text in hexadecimal.
 pub fn hex(text: &str) -> Vec<u8> {
