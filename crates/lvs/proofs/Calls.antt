@@ -98,7 +98,8 @@ module _ (b packet key path : List ℕ) where
         → record { answer = signFound q; buffers = record { path = after } } ≡ outcome
     sign-walked room {after = after} f e =
         let enough : length ps + length ks ≤ length path = omega (arith, counted, room) in
-        ap (λ q. record { answer = signFound q; buffers = record { path = after } }) (sym e) ∙ pair-outcome f enough ∙ sym (read-on ∙ room-first (modelOf b) ps ks (record { path = path }) enough)
+        ap (λ q. record { answer = signFound q; buffers = record { path = after } }) (sym e) ∙ pair-outcome f enough ∙
+        sym (read-on ∙ room-first (modelOf b) ps ks (record { path = path }) enough)
 
 -- ---- the suggesting call
 

@@ -1,15 +1,20 @@
 -- Counting the edges of a Node. Assumes nothing.
 use Prim.Native.Nat.{ℕ, zero, suc, _-_}
-use mathlib.Core.Path.{_≡_, refl, sym, ap, _∙_, subst}
+use mathlib.Core.Path.{_≡_, refl, ap, _∙_, subst}
 use mathlib.Core.Bool.{Bool}
 use mathlib.Core.List.{List, [], _∷_}
-use mathlib.Core.Option.{none, some}
+use mathlib.Core.Option.{none}
 use native.Mathlib.Omega.{arith}
-use lib.ListN.{take, drop, getElem?}
-use Rattle.lvs_edges.specs.Edges.{edgeOf, fileEdges, EdgeAt, EdgeFrom}
+use lib.ListN.{drop, getElem?}
+use Rattle.lvs_edges.specs.Edges.{fileEdges, EdgeAt, EdgeFrom}
 use Rattle.lvs_edges.specs.declared.EdgeRead.{EdgeRead}
 use Rattle.lvs_edges.specs.declared.EdgeRead.the-variants.{Edge as AnEdge, End as NoEdge}
 use Rattle.lvs_follow.specs.Following.{Nth}
+
+-- all but the first of a list
+later : {A : Type 0} (x : A) (xs : List A) (k : ℕ) → (k ≡ 0 → ⊥) → getElem? (x ∷ xs) k ≡ getElem? xs (k - 1)
+later x xs zero h = absurd (h refl)
+later x xs (suc k) h = let e : suc k - 1 ≡ k = omega arith in rw e
 
 -- the edge that is looked for is the one with ordinal `left` from this place on
 pub record Counting (s : List ℕ) (n from left : ℕ) : Type 0 where
@@ -30,8 +35,4 @@ module _ {s : List ℕ} {n from left : ℕ} (c : Counting s n from left) {read :
         record { order = edge-at .order; within = edge-at .within; is = c .is ∙ ap (λ es. getElem? es left) (edge-at .is) ∙ rw z }
 
     pub count-next : (left ≡ 0 → ⊥) → Counting s n next (left - 1)
-    count-next z = record { is = c .is ∙ ap (λ es. getElem? es left) (edge-at .is) ∙ go left z }
-      where
-        go : (k : ℕ) → (k ≡ 0 → ⊥) → getElem? (edgeOf pattern (take (stop - start) (drop start s)) ∷ fileEdges (drop next s)) k ≡ getElem? (fileEdges (drop next s)) (k - 1)
-        go zero h = absurd (h refl)
-        go (suc k) h = let e : suc k - 1 ≡ k = omega arith in rw e
+    count-next z = record { is = c .is ∙ ap (λ es. getElem? es left) (edge-at .is) ∙ later _ (fileEdges (drop next s)) left z }

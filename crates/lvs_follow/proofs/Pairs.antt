@@ -1,9 +1,9 @@
 -- A path followed through both names, and what the following call answers. Assumes nothing.
 use Prim.Native.Nat.{ℕ, _+_}
-use mathlib.Core.Path.{_≡_, refl, sym, ap, _∙_, subst}
+use mathlib.Core.Path.{_≡_, refl, sym, ap, _∙_}
 use mathlib.Core.Bool.{Bool, true, false}
 use mathlib.Core.List.{List}
-use mathlib.Core.Option.{Option, none, some}
+use mathlib.Core.Option.{Option}
 use native.Mathlib.Omega.{arith}
 use lib.ListN.{length, take, drop}
 use lib.Seq.{length-take-le}
@@ -11,7 +11,7 @@ use Rattle.tlv.specs.Lists.{guard, isSome}
 use Rattle.lvs_spec.specs.Model.{Model, modelOf}
 use Rattle.lvs_spec.specs.Names.{Component}
 use Rattle.lvs_spec.specs.Walk.{packetRow, keyRow, noBindings, Match, Pair, begin, lists, follow, followPair}
-use Rattle.lvs_spec.specs.Answers.{Inputs, bad, good, inputs, FollowAnswer, followed, followWith, followAnswer}
+use Rattle.lvs_spec.specs.Answers.{bad, inputs, FollowAnswer, followed, followWith, followAnswer}
 use Rattle.lvs_spec.proofs.Follow.{other-length}
 use Rattle.lvs_spec.proofs.Temporary.{none-named}
 use Rattle.lvs_names.specs.Rows.{rowFrom}

@@ -7,7 +7,7 @@ use native.Mathlib.Omega.{arith}
 use lib.ListN.{length, take, drop, getD, getElem?, length-drop}
 use lib.Seq.{take-all, take-suc, drop-cons}
 use Rattle.tlv.specs.Lists.{bind}
-use Rattle.lvs_spec.specs.Model.{Model, Edge, edges, nodeAt, modelOf}
+use Rattle.lvs_spec.specs.Model.{Model, Edge, edges, nodeAt}
 use Rattle.lvs_spec.specs.Walk.{Binding, Match, begin, cross, follow}
 use Rattle.lvs_spec.specs.Demands.{OnlyNamed}
 use Rattle.lvs_names.specs.declared.Side.{Side}

@@ -12,7 +12,6 @@ use Rattle.lvs_spec.specs.Names.{Component, NameReading, badName, goodName, com
 use Rattle.lvs_names.specs.Rows.{rowFrom}
 use Rattle.lvs_names.specs.declared.Side.{Side}
 use Rattle.lvs_names.specs.declared.Side.the-variants.{Packet, Key}
-use Rattle.lvs_names.specs.declared.Row.{Row}
 use Rattle.lvs_names.specs.declared.NameRead.{NameRead}
 use Rattle.lvs_names.specs.declared.NameRead.the-variants.{Good, Refused}
 use Rattle.lvs_names.specs.declared.Counted.{Counted}

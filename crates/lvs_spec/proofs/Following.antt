@@ -109,7 +109,8 @@ module _ {b packet key : List ℕ} where
       let ps = w .packet-components in
       let ks = w .key-components in
       let n = length ps + length ks in
-      let front : take n (after .path) ≡ pairPath (w .pair) = ap (take n) (w .path-is) ∙ take-at (pairPath (w .pair)) _ n (allowed-length m ps ks (w .allowed)) in
+      let count = allowed-length m ps ks (w .allowed) in
+      let front : take n (after .path) ≡ pairPath (w .pair) = ap (take n) (w .path-is) ∙ take-at (pairPath (w .pair)) _ n count in
       let f = subst (λ p. Followed m ps ks p (w .pair .packet) (w .pair .key)) (sym front) (allowed-followed m ps ks (w .allowed)) in
       follow-some b packet key _ .1 (m, ps, ks, w .inputs, (w .pair .packet, w .pair .key, f))
 

@@ -1,8 +1,7 @@
 -- What the definitions come to, by what the callees answered. Assumes nothing.
-use Prim.Native.Nat.{ℕ, _+_}
+use Prim.Native.Nat.{ℕ}
 use mathlib.Core.Path.{_≡_, sym, _∙_}
 use mathlib.Core.List.{List}
-use lib.ListN.{length}
 use Rattle.lvs_spec.specs.Model.{Model, modelOf}
 use Rattle.lvs_spec.specs.Verdict.{Verdict, unreadable, describes, reading, judge, verdict}
 use Rattle.lvs_spec.specs.Names.{badName, goodName, nameReading, packetName, keyName}

@@ -10,7 +10,7 @@ use Rattle.tlv.specs.Lists.{each, when, first}
 use Rattle.lvs_spec.specs.Limits.{maxNameBytes}
 use Rattle.lvs_spec.specs.Model.{Model, modelOf}
 use Rattle.lvs_spec.specs.Names.{Component}
-use Rattle.lvs_spec.specs.Walk.{Match, Pair, Event, looked, found, continue, answers, noBindings, begin, packetTrace, packetMatches}
+use Rattle.lvs_spec.specs.Walk.{Match, Pair, Event, looked, found, continue, answers, begin, packetTrace, packetMatches}
 use Rattle.lvs_spec.specs.Walk.{keyTrace, pairPath, lists, signed, signTrace, pairTrace, pairs}
 use Rattle.lvs_spec.specs.Answers.{SignAnswer, SignOutcome, Buffers, pairBuffers, pairFound}
 use Rattle.lvs_spec.proofs.Lists.{clash, first-in}

@@ -59,9 +59,13 @@ whole S = hits (modelOf (S .model)) (S .key) (S .goal) (S .c ∷ S .cs) (here S)
 abbrev pub onwards : Search → Match → List (Event Hit)
 onwards S = hits (modelOf (S .model)) (S .key) (S .goal) (S .cs)
 
--- the trace of the edges from a place on, where n edges stand before it
+-- the trace of these edges, where n stand before them
+abbrev eachTried : Search → ℕ → List Edge → List (Event Hit)
+eachTried S n es = each (tried (modelOf (S .model)) (S .key) (S .goal) (S .c) (S .cs) (here S)) (numbered n es)
+
+-- of those from a place on
 abbrev left : Search → ℕ → ℕ → List (Event Hit)
-left S at n = each (tried (modelOf (S .model)) (S .key) (S .goal) (S .c) (S .cs) (here S)) (numbered n (fileEdges (drop at (S .bytes))))
+left S at n = eachTried S n (fileEdges (drop at (S .bytes)))
 
 -- none of the n edges before this place has a hit, and bindings and path are as they were; only named Tags are bound
 pub record Turn (S : Search) (slots path : List ℕ) (at n : ℕ) : Type 0 where
@@ -85,8 +89,7 @@ turn-first S count only-named room short e =
       room = room;
       short = short;
       counted = omega arith;
-      so-far =
-          ap firstFound (hits-step (modelOf (S .model)) (S .key) (S .goal) (S .c) (S .cs) (here S) ∙ ap (λ es. each (tried (modelOf (S .model)) (S .key) (S .goal) (S .c) (S .cs) (here S)) (numbered 0 es)) (sym e));
+      so-far = ap firstFound (hits-step (modelOf (S .model)) (S .key) (S .goal) (S .c) (S .cs) (here S) ∙ ap (eachTried S 0) (sym e));
     }
 
 -- only named Tags are bound at each turn
@@ -136,7 +139,7 @@ module _ {S : Search} {slots path : List ℕ} {at n : ℕ} (t : Turn S slots pat
       unfolding tried
       step =
           t .so-far ∙
-          ap (λ es. firstFound (each (tried (modelOf (S .model)) (S .key) (S .goal) (S .c) (S .cs) (here S)) (numbered n es))) (edge-at .is) ∙
+          ap (λ es. firstFound (eachTried S n es)) (edge-at .is) ∙
           found-append (tried (modelOf (S .model)) (S .key) (S .goal) (S .c) (S .cs) (here S) (n, e)) rest ∙
           ap (λ o. orElse o (firstFound rest)) (looked-on (onward (onwards S) (cross (modelOf (S .model)) (S .c) (here S) n e))) ∙
           ap (λ o. orElse (firstFound (onward (onwards S) o)) (firstFound rest)) leads

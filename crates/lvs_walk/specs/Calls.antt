@@ -8,7 +8,7 @@ use Rattle.tlv.specs.Lists.{first}
 use Rattle.lvs_spec.specs.Model.{Model}
 use Rattle.lvs_spec.specs.Names.{Component}
 use Rattle.lvs_spec.specs.Walk.{Match, packetMatches, pairs}
-use Rattle.lvs_spec.specs.Answers.{SignAnswer, SignOutcome, pairFound}
+use Rattle.lvs_spec.specs.Answers.{SignAnswer, pairFound}
 use Rattle.lvs_bindings.specs.Slots.{Room, bindingsOf}
 use Rattle.lvs_walk.specs.declared.Found.{Found}
 use Rattle.lvs_walk.specs.declared.Found.the-variants.{Nothing, At}

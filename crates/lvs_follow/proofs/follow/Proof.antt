@@ -1,7 +1,7 @@
 -- `lvs_follow::follow` meets its contract. Assumes nothing.
 use borrow.Author.Needs.{needs}
 use native.Mathlib.Omega.{arith}
-use mathlib.Core.Path.{_≡_, sym, ap, _∙_, subst}
+use mathlib.Core.Path.{sym, ap, _∙_, subst}
 use Rattle.lvs_spec.specs.Answers.{followed}
 use Rattle.lvs_verdict.specs.Answers.{GoodInputs, InputsOf}
 use Rattle.lvs_follow.proofs.Pairs.{follow-refused, follow-length, follow-decided}

@@ -1,5 +1,5 @@
 -- `lvs_follow::follow_name` meets its contract. The invariant `Come`: where the first i words have led. Assumes nothing.
-use Prim.Native.Nat.{ℕ, _-_}
+use Prim.Native.Nat.{_-_}
 use mathlib.Core.Path.{_≡_, refl, ap}
 use mathlib.Core.List.{[]}
 use native.Mathlib.Omega.{arith}
@@ -10,7 +10,7 @@ use Rattle.lvs_spec.specs.Model.{modelOf}
 use Rattle.lvs_names.specs.Contents.{RowStep}
 use Rattle.lvs_edges.specs.Sides.{nameFor, rowFor}
 use Rattle.lvs_edges.proofs.Rows.{Component, name-short, row-found, has-component, no-component, component}
-use Rattle.lvs_follow.proofs.Steps.{Path, Come, come-first, come-end, come-more, come-short, come-shut, come-on}
+use Rattle.lvs_follow.proofs.Steps.{Come, come-first, come-end, come-more, come-short, come-shut, come-on}
 use Rattle.lvs_follow.proofs.follow_name.Statement.{statement}
 use Rattle.lvs_follow.proofs.follow_name.Tie as tie
 

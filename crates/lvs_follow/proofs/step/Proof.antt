@@ -1,9 +1,10 @@
 -- `lvs_follow::step` meets its contract. Assumes nothing.
 use borrow.Author.Needs.{needs}
-use mathlib.Core.Path.{_≡_, subst}
+use mathlib.Core.Path.{subst}
 use Prim.Native.Nat.{_-_}
 use lib.ListN.{take, drop}
 use Rattle.lvs_spec.specs.Model.{modelOf}
+use Rattle.lvs_spec.specs.Walk.{Bindings}
 use Rattle.lvs_spec.specs.Demands.{OnlyNamed}
 use Rattle.lvs_bindings.specs.Slots.{bindingsOf}
 use Rattle.lvs_edges.specs.Nodes.{BodyPart}
@@ -20,8 +21,11 @@ start c = c .before .before .before .before .before
 body : (c : tie.After-node-part) → BodyPart (start c .args .model .now) (start c .args .node) (c .node-part .result)
 body c = body-of-part (start c .pre .0) (c .node-part .ensures)
 
-only-named : (s : tie.Start) → OnlyNamed (modelOf (s .args .model .now) .patternCount) (bindingsOf (s .args .packet .now) (s .args .key .now) (s .args .slots .now))
-only-named s = subst (λ n. OnlyNamed n (bindingsOf (s .args .packet .now) (s .args .key .now) (s .args .slots .now))) (s .pre .1 .0) (s .pre .1 .1 .only-named)
+abbrev bindings : tie.Start → Bindings
+bindings s = bindingsOf (s .args .packet .now) (s .args .key .now) (s .args .slots .now)
+
+only-named : (s : tie.Start) → OnlyNamed (modelOf (s .args .model .now) .patternCount) (bindings s)
+only-named s = subst (λ n. OnlyNamed n (bindings s)) (s .pre .1 .0) (s .pre .1 .1 .only-named)
 
 -- the edge that was found
 abbrev node : tie.After-pattern → tie.After-node-part
@@ -29,7 +33,9 @@ node c = c .before .before .before .before
 
 nth : (c : tie.After-pattern)
     → let p = node c .node-part .result in
-    Nth (take (p .end - p .start) (drop (p .start) (start (node c) .args .model .now))) (start (node c) .args .ordinal) (c .pattern .given .0 .0) (c .pattern .given .0 .1 .0) (c .pattern .given .0 .1 .1 .0)
+    let s = start (node c) in
+    let (kind, (from, (stop, _))) = c .pattern .given .0 in
+    Nth (take (p .end - p .start) (drop (p .start) (s .args .model .now))) (s .args .ordinal) kind from stop
 nth c = subst (EdgeNth _ (start (node c) .args .ordinal)) (c .pattern .given .1) (c .before .before .nth-edge .ensures)
 
 sub-edges : tie.Need-sub-edges

@@ -2,7 +2,7 @@
 -- The loop goes over the Node's edges; its invariant `Turn`: no edge so far has a hit, and bindings and path are as they were. Assumes nothing.
 use Prim.Native.Nat.{ℕ, _+_, _*_, _-_, _≤_, _<_}
 use mathlib.Core.Path.{_≡_, refl, ap, _∙_}
-use mathlib.Core.List.{List, []}
+use mathlib.Core.List.{[]}
 use native.Mathlib.Omega.{arith}
 use borrow.Author.Needs.{needs}
 use borrow.Fn.Kinds.{In, Out}
@@ -17,7 +17,6 @@ use Rattle.lvs_edges.specs.Sides.{nameFor, rowFor, textPlace}
 use Rattle.lvs_edges.proofs.Crossed.{crossed-named}
 use Rattle.lvs_edges.proofs.Rows.{Component, name-short, has-component, no-component, component}
 use Rattle.lvs_walk.specs.Search.{sideOf, Within, bytesLeft, afterwards}
-use Rattle.lvs_walk.specs.declared.Goal.{Goal}
 use Rattle.lvs_walk.proofs.Words.{length-first}
 use Rattle.lvs_walk.proofs.Hits.{end-match, end-packet, end-key}
 use Rattle.lvs_walk.proofs.Turns.{Turn, searchAt, begun, turn-first, turn-named, turn-none, edge-at, ordinal-low, turn-shut, turn-back, turn-found}
@@ -94,7 +93,8 @@ within : (t : ℕ) (c : at walk-lts.Start t)
 within t c = c .pre .1 .0
 
 -- the edges crossed before are few
-few : (t : ℕ) (c : at walk-lts.Start t) → c .args .depth + bytesLeft (c .args .packet .now) (c .args .key .now) (c .args .goal) (c .args .at) ≤ maxNameBytes * 3
+few : (t : ℕ) (c : at walk-lts.Start t)
+    → c .args .depth + bytesLeft (c .args .packet .now) (c .args .key .now) (c .args .goal) (c .args .at) ≤ maxNameBytes * 3
 few t c = c .pre .1 .1 .1
 
 -- the name that is walked
@@ -243,13 +243,19 @@ add-ordinal t c =
     omega (arith, low)
 
 sub-cross : (t : ℕ) → at walk-lts.Need-sub-cross t
-sub-cross t c = let p = c .before in edge-at (p .before .before .before .loop .inv) (p .before .before .edge-from .ensures) (p .pattern .given .1) .order
+sub-cross t c =
+    let p = c .before in
+    edge-at (p .before .before .before .loop .inv) (p .before .before .edge-from .ensures) (p .pattern .given .1) .order
 
 part-cross-start : (t : ℕ) → at walk-lts.Need-part-cross-start t
-part-cross-start t c = let p = c .before in edge-at (p .before .before .before .loop .inv) (p .before .before .edge-from .ensures) (p .pattern .given .1) .order
+part-cross-start t c =
+    let p = c .before in
+    edge-at (p .before .before .before .loop .inv) (p .before .before .edge-from .ensures) (p .pattern .given .1) .order
 
 part-cross-end : (t : ℕ) → at walk-lts.Need-part-cross-end t
-part-cross-end t c = let p = c .before in edge-at (p .before .before .before .loop .inv) (p .before .before .edge-from .ensures) (p .pattern .given .1) .within
+part-cross-end t c =
+    let p = c .before in
+    edge-at (p .before .before .before .loop .inv) (p .before .before .edge-from .ensures) (p .pattern .given .1) .within
 
 cross-requires : (t : ℕ) → at walk-lts.Need-cross-requires t
 cross-requires t c κs =
