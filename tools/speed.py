@@ -1,22 +1,30 @@
 #!/usr/bin/env python3
 """The speed of lvs_cases and of the reference checker (reference/, in Rust, release build) on the same cases, and the ratios.
 
-usage: speed.py [--against PROGRAM] [WORD..]    only the rows whose name has one of the words; none: all, in about twelve minutes
+usage: speed.py [--against PROGRAM] [--counts] [WORD..]    only the rows whose name has one of the words; none: all, in about fifteen minutes
 
-With --against the second program is not the reference but another lvs_cases, such as one that was built before a change.
+With --against the second program is not the reference but another lvs_cases, such as one that was built before a change. One from before
+request 6, whose `S` has no path, gets its signing cases without it. With --counts nothing is timed.
 
-A case is run many times by both programs. What reading and printing it costs is taken off: the same run with a model of the same length
-whose first byte is wrong, which both refuse at once; of a description to write, the same with a number that makes it none, near its front. Instructions are counted by valgrind --tool=callgrind. The ratio of the times is
-the median over several turns, in each of which both programs run one after the other; its least and largest value stand after it. `a
-byte` is our instructions for each byte of the model.
+A case is run many times by both programs, once both have given the answer that the row is about. What reading and printing it costs is
+taken off: the same run with a model of the same length whose first byte is wrong, which both refuse at once; of a description to write,
+the same with a number that makes it none, near its front. What a call writes is lent to it already, so that both runs print the same.
+Instructions are counted by valgrind --tool=callgrind. The ratio of the times is the median over several turns, in each of which both
+programs run one after the other; its least and largest value stand after it. `a byte` is our instructions for each byte of the model.
 
 Below these stand the signing calls without the verdict's share: the instructions that a call takes to read its two names and to walk, ours and
 the reference's, and those of the walk alone. The places of the Nodes, which the reference finds while it judges, are not in them; our pass
 that records them is a column of its own. For the bushy models it is the mean over pairs of names drawn evenly.
 
+Then what following a path takes, beside the verdict that it contains and the signing call that found the path: `over` is a following call
+without its verdict, `places` the pass that records the Nodes' places, `crossings` the steps through the two names, and `each` those for one
+component.
+
 Then one suggesting call with a list of 64 certificates against 64 signing calls, one for each of them, and against the reference's call. The
 last line is the stack that a level of our walk takes, read off the program.
 """
+import contextlib
+import io
 import os
 import pathlib
 import random
@@ -30,9 +38,12 @@ ROOT = pathlib.Path(__file__).resolve().parent.parent
 sys.path[:0] = [str(ROOT / "tests/cases"), str(ROOT / "tools")]
 sys.dont_write_bytecode = True
 import build  # noqa: E402
-from compare import build_reference, OURS, REFERENCE  # noqa: E402
+from compare import build_reference, FIELDS, OURS, REFERENCE  # noqa: E402
 
 PROGRAMS = [OURS / "lvs_cases", REFERENCE / "answer_cases"]
+WITHOUT_PATH = []  # those of them whose signing case has no path
+PATH = 64  # words: one for each component that two names may have
+UNUSED = 65535  # a word of a path that no call writes: no Node has so many edges
 COUNTED = 4  # times that a case is run under callgrind
 TIMED_SECONDS = 0.3  # for one timed run of ours, about
 TURNS = 9
@@ -89,7 +100,15 @@ def long_values(size):
     return two_nodes(build.value_edge(1, "p" * 200), size)
 
 
-SHAPES = value_edges, pattern_edges, constraints, optional_elements, chain, refused_at_last
+def optional_between(size):
+    """One Node with an edge to itself for the component b and one for any, and optional elements of two bytes between these."""
+    skipped, any_component = build.element(0x80, b""), build.pattern_edge(0, 1)
+    around = lambda *between: build.model(build.node(0, build.parent(0), build.value_edge(0, "b"), *between, any_component, build.signer(0)))
+    room = size - len(around(bytes(300))) + 300
+    return around(skipped * (room // len(skipped)))
+
+
+SHAPES = value_edges, pattern_edges, constraints, optional_elements, chain, refused_at_last, optional_between
 
 
 # signing calls: (what, model, packet name, key name)
@@ -151,7 +170,7 @@ def drawn(words, count):
     draw, model = random.Random(1), bushy(words)
     for _ in range(count):
         name = build.path(f"/{draw.choice(words[:14])}/{draw.choice(words + ['other'])}")
-        yield build.sign(model, name, name)
+        yield sign("allowed", model, name, name)
 
 
 def backtracking(what="deep backtracking", named=2):
@@ -179,22 +198,88 @@ def compared():
 
 
 def signings():
-    """(what, model, packet name, key name)"""
+    """(what, the answer, model, packet name, key name)"""
     for calls in (tutorial, long_names, many_nodes, bushy_models, backtracking, temporary, compared):
-        yield from calls()
+        for what, *call in calls():
+            yield what, "not allowed" if "not allowed" in what or "backtracking" in what else "allowed", *call
+
+
+def matchings():
+    """(what, the answer, model, packet name)"""
+    for what, answer, model, packet, key in signings():
+        if "backtracking" in what:
+            longer = build.path("/a/a/a/a/a/a/a")  # than any path of the model
+            yield f"match, {what}", "no match", model, longer
+        elif answer == "allowed":
+            yield f"match, {what.removesuffix(', allowed')}", "match", model, packet
+
+
+# following calls: (what, model, packet name, key name, words of the path; None: those that the signing call writes)
+
+
+def few_nodes():
+    """Five Nodes, of an ordinary application's size: a document of a user's, and the user's key."""
+    model = build.tree(("site", (1,), "doc", [4]), ("site", (1,), "KEY", []))
+    yield "a few Nodes", model, build.path("/site/alice/doc"), build.path("/site/alice/KEY")
+
+
+def ladder(steps):
+    """At each step of the packet's name a Tag is bound or none is, and the key's name, which is another, needs all of them free: of all
+    ways, twice as many with each step, only the last one leads to a signer."""
+    first = steps + 2  # of the key's Nodes
+    nodes = [build.node(0, build.value_edge(1, "data"), build.value_edge(first, "key"))]
+    for i in range(1, steps + 1):
+        nodes.append(build.node(i, build.parent(i - 1), build.pattern_edge(i + 1, i), build.pattern_edge(i + 1, steps + 1)))
+    nodes.append(build.node(steps + 1, build.parent(steps), build.signer(first + steps)))
+    nodes.append(build.node(first, build.parent(0), build.pattern_edge(first + 1, 1)))
+    for i in range(1, steps):
+        nodes.append(build.node(first + i, build.parent(first + i - 1), build.pattern_edge(first + i + 1, i + 1)))
+    nodes.append(build.node(first + steps, build.parent(first + steps - 1)))
+    return f"ladder, {steps} steps", build.model(*nodes, patterns=steps), build.path("/data" + "/p" * steps), build.path("/key" + "/k" * steps)
+
+
+def counted_past():
+    """One Node with 4,000 edges to itself, which any component passes, and names of 1 or 32 components: by its first edge, and by its last.
+    Then names of 32 components by an edge behind as many optional elements as there is room for."""
+    edges = 4000
+    model = build.model(build.node(0, build.parent(0), build.pattern_edge(0, 1) * edges, build.signer(0)))
+    for steps in (1, 32):
+        name = build.path("/a" * steps)
+        for ordinal in (0, edges - 1):
+            yield f"4,000 edges, {steps} step{'s' * (steps > 1)}, edge {ordinal}", model, name, name, [ordinal] * 2 * steps
+    yield "optional elements, 32 steps", optional_between(1 << 15), name, name, None
+
+
+def last_value():
+    """2,000 values in one Node, the last of which is taken."""
+    edges = [build.value_edge(1, f"{i:04}") for i in range(2000)]
+    yield "2,000 values, the last", build.model(build.node(0, *edges), build.node(1, build.parent(0), build.signer(1))), *[build.path("/1999")] * 2
+
+
+def followings():
+    (_, *article), _ = tutorial()
+    yield "tutorial", *article, None
+    for calls in (few_nodes, long_names, many_nodes, bushy_models):
+        for call in calls():
+            yield *call, None
+    for steps in (4, 8, 12, 16):
+        yield *ladder(steps), None
+    for call in last_value():
+        yield *call, None
+    yield from counted_past()
 
 
 CERTIFICATES = 64  # the most that a list has
 
 
 def suggestings():
-    """(what, model, packet name, certificate names): the last one may sign; by the model for backtracking none may"""
+    """(what, whether the last one may sign, model, packet name, certificate names): no other may, and by the model for backtracking none may"""
     (_, model, article, author), (*_, other) = tutorial()
-    yield "64 certificates, tutorial", model, article, [other] * (CERTIFICATES - 1) + [author]
+    yield "64 certificates, tutorial", True, model, article, [other] * (CERTIFICATES - 1) + [author]
     for calls in (long_names, many_nodes, bushy_models, backtracking):
         for what, model, packet, key in calls():
             other = key[:-1] + bytes([key[-1] ^ 1])
-            yield f"64 certificates, {what}", model, packet, [other] * (CERTIFICATES - 1) + [key]
+            yield f"64 certificates, {what}", calls is not backtracking, model, packet, [other] * (CERTIFICATES - 1) + [key]
 
 
 NUMBERS = 8192  # that a case may have
@@ -212,7 +297,7 @@ def lists_of(model):
 
 
 def descriptions():
-    """(what, model, case, the case that is refused at once). What is described is lent already, so that both cases print the same."""
+    """(what, the answer, model, case, the case that is refused at once)"""
     for shape in (value_edges, pattern_edges, constraints, chain, long_values):
         for size in (1 << i for i in range(10, 16)):
             model = shape(size)
@@ -222,23 +307,76 @@ def descriptions():
             numbers, texts = lists
             none = numbers[:NO_FLAG] + [2] + numbers[NO_FLAG + 1:]
             where = f"{shape.__name__}, {size >> 10} KiB"
-            yield f"write, {where}", model, build.write(numbers, texts, model), build.write(none, texts, model)
+            yield f"write, {where}", "written", model, build.write(numbers, texts, model), build.write(none, texts, model)
             case = build.describe(model, numbers, texts)
-            yield f"describe, {where}", model, case, spoiled(case)
+            yield f"describe, {where}", "described", model, case, spoiled(case)
 
 
 def workloads():
-    """(what, model, case, the case that is refused at once)"""
+    """(what, the answer, model, case, the case that is refused at once)"""
     for shape in SHAPES:
         for size in (1 << i for i in range(10, 16)):
             model = shape(size)
             assert size // 2 < len(model) <= size, (shape.__name__, size, len(model))
             case = build.verdict(model)
-            yield f"verdict, {shape.__name__}, {size >> 10} KiB", model, case, spoiled(case)
-    for what, model, packet, key in signings():
-        case = build.sign(model, packet, key)
-        yield what, model, case, spoiled(case)
+            answer = "refused 12 " if shape is refused_at_last else "accepted "
+            yield f"verdict, {shape.__name__}, {size >> 10} KiB", answer, model, case, spoiled(case)
+    for what, answer, model, packet, key in signings():
+        case = sign(answer, model, packet, key)
+        yield what, answer, model, case, spoiled(case)
+    for what, answer, model, packet in matchings():
+        case = match(answer, model, packet)
+        yield what, answer, model, case, spoiled(case)
     yield from descriptions()
+
+
+# cases
+
+
+def line_of(program, case):
+    return subprocess.run([program], input=form(program, case), capture_output=True, check=True).stdout.decode()
+
+
+def lent(answer, case, count):
+    """The words that a call leaves in the last `count` of a case, ours."""
+    line = line_of(PROGRAMS[0], case)
+    assert line.startswith(answer), (answer, line[:60])
+    return [int(word) for word in line.split()[-count:]]
+
+
+def sign(answer, model, packet, key):
+    """A signing call with a word for each component that a name may have; what it leaves in them stands there before it, too."""
+    return build.sign(model, packet, key, path(answer, model, packet, key))
+
+
+def path(answer, model, packet, key):
+    return lent(answer, build.sign(model, packet, key, [UNUSED] * PATH), PATH)
+
+
+def match(answer, model, packet):
+    return build.match(model, packet, lent(answer, build.match(model, packet, build.OLD), len(build.OLD)))
+
+
+def has_path(program):
+    """Whether the program's `S` has a path: without one a case is broken off."""
+    model, name = build.model(build.node(0)), build.path("/")
+    return subprocess.run([program], input=old_sign(model, name, name), capture_output=True, check=True).stdout == b"broken\n"
+
+
+def old_sign(model, packet, key):
+    return b"S" + b"".join(map(build.field, (model, packet, key)))
+
+
+def form(program, cases):
+    """The cases as the program reads them."""
+    if program not in WITHOUT_PATH:
+        return cases
+    written = b""
+    with io.BytesIO(cases) as given:
+        while letter := given.read(1):
+            fields = [given.read(int.from_bytes(given.read(4), "big")) for _ in range(FIELDS[letter])]
+            written += old_sign(*fields[:3]) if letter == b"S" else letter + b"".join(map(build.field, fields))
+    return written
 
 
 # measuring
@@ -252,7 +390,7 @@ def spoiled(case):
 def instructions(program, case, *inside):
     """Instructions for one case; with `inside`, only those in a function of that name and what it calls."""
     with tempfile.TemporaryFile() as given:
-        given.write(case * COUNTED)
+        given.write(form(program, case) * COUNTED)
         given.seek(0)
         collect = [f"--toggle-collect={name}" for name in inside]
         counter = ["valgrind", "--tool=callgrind", "--callgrind-out-file=/dev/null", *collect, str(program)]
@@ -269,37 +407,52 @@ def seconds(program, given):
 
 def time_ratios(case, base, count):
     """Ours : the reference's in each turn, sorted."""
-    with tempfile.TemporaryFile() as real, tempfile.TemporaryFile() as empty:
-        for _ in range(count):
-            real.write(case)
-            empty.write(base)
-        real.flush(), empty.flush()
+    with contextlib.ExitStack() as files:
+        runs = []
+        for program in PROGRAMS:
+            real, empty = (files.enter_context(tempfile.TemporaryFile()) for _ in range(2))
+            for file, one in ((real, form(program, case)), (empty, form(program, base))):
+                for _ in range(count):
+                    file.write(one)
+                file.flush()
+            runs.append((program, real, empty))
         turns = []
         for _ in range(TURNS):
-            ours, theirs = (seconds(program, real) - seconds(program, empty) for program in PROGRAMS)
+            ours, theirs = (seconds(program, real) - seconds(program, empty) for program, real, empty in runs)
             turns.append(ours / theirs)
     return sorted(turns)
 
 
-def row(what, model, case, base):
+def expect(answer, case, base):
+    """Both programs answer so, and refuse what is taken off."""
+    for program in PROGRAMS:
+        for wanted, given in ((answer, case), ("refused ", base)):
+            line = line_of(program, given)
+            assert line.startswith(wanted) and line.count("\n") == 1, (program, wanted, line[:60])
+
+
+def row(what, answer, model, case, base, timed):
+    expect(answer, case, base)
     ours, theirs = (instructions(program, case) - instructions(program, base) for program in PROGRAMS)
-    count = max(20, int(TIMED_SECONDS * 5e9 / max(ours, 1)))
-    count = min(count, (512 << 20) // len(case))
-    times = time_ratios(case, base, count)
-    spread = f"{times[0]:.2f} to {times[-1]:.2f}"
-    print(f"{what:<40}{ours:>12.0f}{theirs:>12.0f}{ours / theirs:>8.2f}{times[TURNS // 2]:>8.2f}{spread:>16}{ours / len(model):>8.1f}", flush=True)
+    median = spread = ""
+    if timed:
+        count = max(20, int(TIMED_SECONDS * 5e9 / max(ours, 1)))
+        count = min(count, (256 << 20) // len(case))
+        times = time_ratios(case, base, count)
+        median, spread = f"{times[TURNS // 2]:.2f}", f"{times[0]:.2f} to {times[-1]:.2f}"
+    print(f"{what:<40}{ours:>12.0f}{theirs:>12.0f}{ours / theirs:>8.3f}{median:>8}{spread:>16}{ours / len(model):>8.1f}", flush=True)
 
 
 def walks():
     """(what, cases)"""
-    for what, model, packet, key in signings():
+    for what, answer, model, packet, key in signings():
         if "bushy" not in what:
-            yield what, [build.sign(model, packet, key)]
+            yield what, [sign(answer, model, packet, key)]
     yield "bushy", list(drawn(INSTRUMENTS, 48))
     yield "bushy, values alike", list(drawn(ALIKE, 48))
 
 
-NAMES, WALK, PLACES = "lvs_names::read_name", "lvs_walk::walk", "lvs_edges::nodes::node_places"
+NAMES, WALK, PLACES, FOLLOW = "lvs_names::read_name", "lvs_walk::walk", "lvs_edges::nodes::node_places", "lvs_follow::follow_name"
 THEIRS = {"names": "*Name*load*", "walk": "*walk_from*"}  # as the reference calls the first two
 
 
@@ -311,21 +464,44 @@ def walk_row(what, cases):
           f"{walk:>12.0f}{their_walk:>12.0f}{walk / their_walk:>7.2f}{ours(PLACES):>9.0f}", flush=True)
 
 
-def suggest_row(what, model, packet, keys):
+def follow_row(what, model, packet, key, words):
+    """Ours; and the other program's following call, if it has one."""
+    signing = sign("allowed", model, packet, key)
+    if words is None:
+        words = [word for word in path("allowed", model, packet, key) if word != UNUSED]
+    count, following = len(words), build.follow(model, packet, key, words)
+    knows = [program for program in PROGRAMS if program not in WITHOUT_PATH]
+    for program in knows:
+        assert line_of(program, following) == "accepted\n", (what, line_of(program, following))
+    cost = lambda case, program=PROGRAMS[0]: instructions(program, case) - instructions(program, spoiled(case))
+    verdict, found = cost(build.verdict(model)), cost(signing)
+    follow, *theirs = (cost(following, program) for program in knows)
+    over, places, crossings = follow - verdict, *(instructions(PROGRAMS[0], following, inside) for inside in (PLACES, FOLLOW))
+    theirs = f"{theirs[0]:>11.0f}{follow / theirs[0]:>7.2f}" if theirs else ""
+    print(f"{what:<32}{count:>6}{verdict:>10.0f}{found:>12.0f}{follow:>10.0f}{found / follow:>9.2f}{over:>10.0f}{places:>8.0f}"
+          f"{crossings:>11.0f}{crossings / count:>8.0f}{theirs}", flush=True)
+
+
+def suggest_row(what, is_allowed, model, packet, keys):
     """One call for the list, and a signing call for each of its certificates."""
     case = build.suggest(model, packet, b"".join(keys))
+    expect(f"certificate {CERTIFICATES - 1}" if is_allowed else "none", case, spoiled(case))
     ours, theirs = (instructions(program, case) - instructions(program, spoiled(case)) for program in PROGRAMS)
-    signing = [build.sign(model, packet, key) for key in keys]
+    signing = [sign("not allowed", model, packet, key) for key in keys[:1]] * (CERTIFICATES - 1)
+    signing.append(sign("allowed" if is_allowed else "not allowed", model, packet, keys[-1]))
     calls = sum(sign * instructions(PROGRAMS[0], b"".join(cases)) for sign, cases in ((1, signing), (-1, map(spoiled, signing))))
     print(f"{what:<40}{ours:>12.0f}{calls:>12.0f}{ours / calls:>8.3f}{theirs:>12.0f}{ours / theirs:>8.2f}", flush=True)
 
 
 def frame():
-    """Bytes of the stack for a level of the walk: its locals, the six registers that it saves, and the return address."""
+    """Bytes of the stack for a level of the walk: its locals, the registers that it saves, the return address, and the arguments for the
+    next level that are passed on the stack."""
     code = subprocess.run(["objdump", "-d", str(PROGRAMS[0])], capture_output=True, text=True, check=True).stdout
     start = code.index("<lvs_walk::walk>:")
-    locals_ = int(re.search(r"sub +\$0x([0-9a-f]+),%rsp", code[start:]).group(1), 16)
-    return locals_ + code[start:code.index("sub ", start)].count("push ") * 8 + 8
+    code = code[start:code.index("\n\n", start)]
+    locals_ = int(re.search(r"sub +\$0x([0-9a-f]+),%rsp", code).group(1), 16)
+    arguments = max(int(size, 16) for size in re.findall(r"call .*<lvs_walk::walk>\n.*add +\$0x([0-9a-f]+),%rsp", code))
+    return locals_ + code[:code.index("sub ")].count("push ") * 8 + 8 + arguments
 
 
 def main():
@@ -334,21 +510,30 @@ def main():
     if words[:1] == ["--against"]:
         second, PROGRAMS[1], words = "other", words[1], words[2:]
         THEIRS.update(names=NAMES, walk=WALK)
+        if not has_path(PROGRAMS[1]):
+            WITHOUT_PATH.append(PROGRAMS[1])
     else:
         build_reference()
+    timed = words[:1] != ["--counts"]
+    words = words if timed else words[1:]
     wanted = lambda what: not words or any(word in what for word in words)
     print(f"{'':<40}{'ours':>12}{second:>12}{'ratio':>8}{'time':>8}{'':>16}{'a byte':>8}")
-    for what, model, case, base in workloads():
+    for what, *measured in workloads():
         if wanted(what):
-            row(what, model, case, base)
+            row(what, *measured, timed)
     print(f"\n{'without the verdict':<28}{'ours':>10}{second:>10}{'ratio':>7}{'our walk':>12}{'their walk':>12}{'ratio':>7}{'places':>9}")
     for what, cases in walks():
         if wanted(what):
             walk_row(what, cases)
+    print(f"\n{'following':<32}{'words':>6}{'verdict':>10}{'sign':>12}{'follow':>10}{'sign : 1':>9}{'over':>10}{'places':>8}{'crossings':>11}{'each':>8}"
+          + ("" if WITHOUT_PATH else f"{second:>11}{'ratio':>7}"))
+    for what, *call in followings():
+        if wanted(f"follow, {what}"):
+            follow_row(what, *call)
     print(f"\n{'':<40}{'one call':>12}{'64 signings':>12}{'share':>8}{second:>12}{'ratio':>8}")
-    for what, model, packet, keys in suggestings():
+    for what, *call in suggestings():
         if wanted(what):
-            suggest_row(what, model, packet, keys)
+            suggest_row(what, *call)
     print(f"\na level of the walk takes {frame()} bytes of the stack")
 
 
