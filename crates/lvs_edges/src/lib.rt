@@ -97,7 +97,7 @@ pub fn cross<'a>(
 }
 
 // Crosses a ValueEdge. Where it leads is read only when the component passes.
-fn cross_value(s: &[u8], c: &[u8], header: usize) -> Crossing
+pub fn cross_value(s: &[u8], c: &[u8], header: usize) -> Crossing
     requires { ⌜ Alone (now c) header ⌝ }
     ensures { λ r. ⌜ CrossedValue (now (s .entry)) (now (c .entry)) r ⌝ }
 {
@@ -109,7 +109,7 @@ fn cross_value(s: &[u8], c: &[u8], header: usize) -> Crossing
 
 // Crosses a PatternEdge: a bound Tag is compared, and an unbound one is bound. Constraints are tested before that; for a temporary Tag they are
 // all there is to test. Most edges have none, and are crossed without a call.
-fn cross_pattern<'a>(
+pub fn cross_pattern<'a>(
     s: &[u8],
     named: u64,
     packet: &'a [u8],

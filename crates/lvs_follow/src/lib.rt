@@ -56,7 +56,8 @@ fn nth_edge(s: &[u8], ordinal: u16) -> EdgeRead
     }
 }
 
-// Crosses that edge of a Node, where there is one, with the component `c`, which stands at `at` of the names' text.
+// Crosses that edge of a Node, where there is one, with the component `c`, which stands at `at` of the names' text. It asks for the kind itself:
+// `lvs_edges::cross` is left to the search, into which the compiler puts it where nobody else calls it.
 fn step<'a>(
     model: &[u8],
     places: &[u32; PLACE_WORDS],
@@ -82,17 +83,11 @@ fn step<'a>(
     let EdgeRead::Edge(pattern, p, q, _) = nth_edge(edges, ordinal) else {
         return Crossing::Shut;
     };
-    lvs_edges::cross(
-        &edges[p..q],
-        pattern,
-        named,
-        packet,
-        key,
-        at,
-        c,
-        header,
-        slots,
-    )
+    let edge = &edges[p..q];
+    if pattern {
+        return lvs_edges::cross_pattern(edge, named, packet, key, at, c, header, slots);
+    }
+    lvs_edges::cross_value(edge, c, header)
 }
 
 // Follows the words of a path through a name's components from a place on, from the model's start and the bindings in the slots. There the
