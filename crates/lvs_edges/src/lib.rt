@@ -1,8 +1,10 @@
 // A Node's edges, and crossing one with a component. Below the search, so that whoever follows a given path needs no search.
 //
 // `named` is NamedPatternCnt: a Tag above it is temporary, and has no binding. `packet` and `key` are the two names, `slots` the bindings as they
-// stand, and `c` the bytes of the component that is to pass, which stands at `at` of the names' text and has a header of `header` bytes. `requires`
-// asks for that.
+// stand, and `c` the bytes of the component that is to pass, which stands at `at` of the names' text and has a header of `header` bytes.
+//
+// A layer below the public calls: `requires` asks for such a component, such slots and, in `nodes`, for places; the search and the follower have
+// made them. Edges may be any bytes.
 pub mod nodes;
 pub mod sides;
 

@@ -1,4 +1,6 @@
 // The two names that a walk takes, packet and key, and where a place of one lies in their text: the packet's bytes, then the key's.
+//
+// A layer below the public calls: `requires` asks for a packet name and a place within the limit, which these have tested.
 ghost use mathlib.Core.Path.{_≡_};
 ghost use Prim.Native.Nat.{_≤_};
 ghost use lib.ListN.{length};
