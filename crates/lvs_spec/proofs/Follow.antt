@@ -12,7 +12,7 @@ use lib.Seq.{take-at, drop-at}
 use Rattle.tlv.specs.Lists.{bind, onward}
 use Rattle.lvs_spec.specs.Model.{Model, edges, nodeAt}
 use Rattle.lvs_spec.specs.Names.{Component}
-use Rattle.lvs_spec.specs.Walk.{Binding, packetRow, keyRow, Match, Pair, noBindings, begin, cross, matches, packetTrace, keyTrace}
+use Rattle.lvs_spec.specs.Walk.{Binding, rowOf, packetRow, keyRow, Match, Pair, noBindings, begin, cross, matches, packetTrace, keyTrace}
 use Rattle.lvs_spec.specs.Walk.{packetMatches, keyMatches, pairPath, lists, follow, followPair}
 use Rattle.lvs_spec.specs.Demands.{Allowed, Way, arrived, crossing, Followed}
 use Rattle.lvs_spec.proofs.Lists.{each-in, each-from, bind-from, guard-from, getElem-lt, at-numbered}
@@ -131,11 +131,11 @@ module _ (m : Model) (packet key : List Component) where
     key-own = own-way m (keyRow key) (begin m (x .bindings)) refl (a .key-match)
 
     packet-length : length (x .path) ≡ length packet
-    unfolding packetRow
+    unfolding rowOf
     packet-length = way-length m packet-own ∙ length-map packet _
 
     key-length : length (y .path) ≡ length key
-    unfolding keyRow
+    unfolding rowOf
     key-length = way-length m key-own ∙ length-map key _
 
     -- it has one word for each component

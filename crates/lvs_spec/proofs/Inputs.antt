@@ -1,15 +1,15 @@
 -- What a model and two names are read as. Assumes nothing.
-use Prim.Native.Nat.{ℕ, _+_, _≤_}
+use Prim.Native.Nat.{ℕ}
 use mathlib.Core.Path.{_≡_, refl}
 use mathlib.Core.List.{List, List·Memᴰ}
 use native.Mathlib.Omega.{arith}
 use lib.ListN.{length, length-replicate}
-use Rattle.lvs_spec.specs.Limits.{pathWords}
+use Rattle.lvs_spec.specs.Limits.{bindingWords, pathWords}
 use Rattle.lvs_spec.specs.Model.{Model}
 use Rattle.lvs_spec.specs.Names.{Component, NameReading, badName, goodName, packetName, keyName}
 use Rattle.lvs_spec.specs.Answers.{Refusal, Usable, unusable, usable, usableModel, Inputs, bad, good, inputNames, inputsIn, inputs, Buffers}
 use Rattle.lvs_spec.specs.Certificates.{roomy}
-use Rattle.lvs_spec.specs.Demands.{SignInputs, PathRoom, keyRefusals, followRefusals}
+use Rattle.lvs_spec.specs.Demands.{SignInputs, RoomFor, SignRoom, keyRefusals, followRefusals}
 use Rattle.lvs_spec.proofs.Refusals.{key-number, of-model, of-packet, of-own}
 use Rattle.lvs_spec.proofs.Names.{good-few}
 
@@ -39,19 +39,25 @@ inputs-read b packet key = go (usableModel b) (packetName packet) (keyName key) 
         let g : SignInputs b packet key m ps ks = record { usable-is = eu; packet-good = er; key-good = eq } in
         rw (inputs-good g) (reads g)
 
--- ---- room for a path
+-- ---- room for bindings and path
 
 same-components : {r : NameReading} {cs ds : List Component} → r ≡ goodName cs → r ≡ goodName ds → cs ≡ ds
 same-components p q = cc
 
 -- for these names
-pub path-room : {b packet key : List ℕ} {m : Model} {ps ks : List Component} (s : Buffers) → SignInputs b packet key m ps ks
-    → length ps + length ks ≤ length (s .path) → PathRoom packet key s
-path-room s g room =
+pub sign-room : {b packet key : List ℕ} {m : Model} {ps ks : List Component} (s : Buffers) → SignInputs b packet key m ps ks
+    → RoomFor ps ks s → SignRoom packet key s
+sign-room s g room =
     record { enough = λ ps ks p k. rw (same-components p (g .packet-good), same-components k (g .key-good)) room }
 
 -- for any
-pub roomy-enough : (packet key : List ℕ) → PathRoom packet key roomy
+pub roomy-enough : (packet key : List ℕ) → SignRoom packet key roomy
 unfolding packetName keyName roomy
 roomy-enough packet key =
-    record { enough = λ ps ks p k. omega (arith, good-few 21 packet p, good-few 24 key k, length-replicate {A = ℕ} pathWords 0) }
+    record {
+      enough = λ ps ks p k.
+          record {
+            words = omega (arith, length-replicate {A = ℕ} bindingWords 0);
+            path = omega (arith, good-few 21 packet p, good-few 24 key k, length-replicate {A = ℕ} pathWords 0);
+          };
+    }

@@ -69,11 +69,12 @@ module _ {m n : Model} (s : SameTraces m n) where
   unfolding inputNames signWith signRoom
   sign-same (badName x) q w = refl
   sign-same (goodName ps) (badName x) w = refl
-  sign-same (goodName ps) (goodName ks) w = go (ltb (length (w .path)) (length ps + length ks))
+  sign-same (goodName ps) (goodName ks) w = go (ltb (length (w .words)) bindingWords) (ltb (length (w .path)) (length ps + length ks))
     where
-      go : (t : Bool) → signRoom t m ps ks w ≡ signRoom t n ps ks w
-      go true = refl
-      go false = rw (s .pair ps ks)
+      go : (t u : Bool) → signRoom t u m ps ks w ≡ signRoom t u n ps ks w
+      go true u = refl
+      go false true = refl
+      go false false = rw (s .pair ps ks)
 
   path-same : (r q : NameReading) (path : List ℕ) → followWith (inputNames m r q) path ≡ followWith (inputNames n r q) path
   unfolding inputNames followWith pairs

@@ -1,7 +1,7 @@
 -- Temporary Tags, those above the count of named ones (docs/format.md, 7.1): never bound, so that they are never compared, and no option or
 -- argument that names one holds. Assumes nothing.
 use Prim.Native.Nat.{ℕ, zero, suc, _+_, _*_, _≤_, _<_}
-use mathlib.Core.Path.{_≡_, refl, sym, _∙_, subst}
+use mathlib.Core.Path.{_≡_, refl, sym, ap, _∙_, subst}
 use mathlib.Core.Bool.{false}
 use mathlib.Core.List.{List, [], _∷_, List·Memᴰ}
 use mathlib.Core.Option.{Option, none, some}
@@ -17,14 +17,14 @@ use Rattle.lvs_spec.specs.Verdict.{Function, eq, eqType, isValidId, isVa
 use Rattle.lvs_spec.specs.Names.{Component}
 use Rattle.lvs_spec.specs.Walk.{Binding, packetRow, keyRow, Bindings, noBindings, bound, bindTag, boundTo, argumentIn, holds, callHolds, termHolds}
 use Rattle.lvs_spec.specs.Walk.{constraintHolds, crosses, bindingsAfter, Match, begin, matches, packetTrace, keyTrace, packetMatches, keyMatches}
-use Rattle.lvs_spec.specs.Answers.{words, boundCount}
-use Rattle.lvs_spec.specs.Demands.{OnlyNamed}
+use Rattle.lvs_spec.specs.Answers.{tagWords, boundCount}
+use Rattle.lvs_spec.specs.Demands.{wordsAt, OnlyNamed}
 use Rattle.lvs_spec.proofs.Lists.{clash, first-in}
 use Rattle.lvs_spec.proofs.Trace.{walk-keeps}
 use Rattle.lvs_spec.proofs.Usable.{usable-model}
 use Rattle.lvs_spec.proofs.Matching.{MatchedBy}
-use Rattle.lvs_spec.proofs.Buffer.{twice, twice-one, packet-words}
-use Rattle.lvs_spec.proofs.Bindings.{Changed, stays, fills, after-changed, cross-changed}
+use Rattle.lvs_spec.proofs.Buffer.{words-at}
+use Rattle.lvs_spec.proofs.Bindings.{Changed, stays, fills, after-changed, cross-changed, none-there, packet-bindings}
 
 -- ---- only named Tags are ever bound
 
@@ -41,11 +41,6 @@ named-changed {count} {s} {r = r} p (fills j l _ k) = record { temporary = go }
 pub named-after : (count : ℕ) (s : Bindings) (b : Binding) (e : Edge) {r : Bindings} → OnlyNamed count s → bindingsAfter count s b e ≡ some r
     → OnlyNamed count r
 named-after count s b e p h = named-changed p (after-changed count s b e h)
-
-none-there : {A : Type 0} (n i : ℕ) → getD {A = Option A} (replicate n none) i none ≡ none
-none-there zero i = refl
-none-there (suc n) zero = refl
-none-there (suc n) (suc i) = none-there n i
 
 -- where no Tag is bound
 pub none-named : (count : ℕ) → OnlyNamed count noBindings
@@ -108,14 +103,6 @@ temporary-stays count s (suc i) b h = rw (le-ltb i count (omega arith))
 
 -- ---- what follows for a match
 
-unbound-words : (s : Bindings) (i : ℕ) → getD s i none ≡ none → (getD (words s) (i * 2) 0 ≡ 0) × (getD (words s) (i * 2 + 1) 0 ≡ 0)
-unfolding words
-unbound-words [] i e = (refl, refl)
-unbound-words (none ∷ s) zero e = (refl, refl)
-unbound-words (some d ∷ s) zero e = clash (cc)
-unbound-words (none ∷ s) (suc i) e = rw (twice i, twice-one i) (unbound-words s i e)
-unbound-words (some d ∷ s) (suc i) e = rw (twice i, twice-one i) (unbound-words s i e)
-
 few : (s : Bindings) (count : ℕ) → ((i : ℕ) → count ≤ i → getD s i none ≡ none) → boundCount s ≤ count
 unfolding boundCount
 few [] count h = omega arith
@@ -129,17 +116,12 @@ module _ {b name buffer after : List ℕ} {v n : ℕ} (by : MatchedBy b name buf
   match-named = rw (usable-model b (by .inputs .usable-is)) (packet-named (by .model) (by .components) (first-in _ (by .first-match)))
 
   -- the words of a temporary Tag, suc i, are 0
-  pub temporary-words : (i : ℕ) → modelOf b .patternCount < suc i → suc i ≤ maxTag → (getD after (i * 2) 0 ≡ 0) × (getD after (i * 2 + 1) 0 ≡ 0)
+  pub temporary-words : (i : ℕ) → modelOf b .patternCount < suc i → suc i ≤ maxTag → wordsAt after i ≡ tagWords none
   unfolding bound
   temporary-words i h low =
       let s = by .match .bindings in
-      let rest = drop bindingWords buffer in
-      let full : length (words s) ≡ bindingWords = packet-words (by .model) (by .components) (first-in _ (by .first-match)) in
-      let (start, size) = unbound-words s i (match-named .temporary (suc i) h) in
-      rw (by .words-are) (
-        List·getD-append (words s) rest 0 (i * 2) (omega (arith, full)) ∙ start,
-        List·getD-append (words s) rest 0 (i * 2 + 1) (omega (arith, full)) ∙ size,
-      )
+      let count = packet-bindings (by .model) (by .components) (first-in _ (by .first-match)) in
+      rw (by .words-are) (words-at s (drop bindingWords buffer) i (omega (arith, count)) ∙ ap tagWords (match-named .temporary (suc i) h))
 
   -- no more Tags are bound than are named
   pub bound-few : n ≤ modelOf b .patternCount

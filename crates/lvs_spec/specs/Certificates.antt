@@ -7,7 +7,7 @@ use lib.Dec.{ltb}
 use lib.ListN.{length, replicate}
 use Rattle.tlv.specs.Element.{Element, cuts, pieces, elementBytes}
 use Rattle.tlv.specs.Lists.{firstIndex}
-use Rattle.lvs_spec.specs.Limits.{maxCertificates, pathWords}
+use Rattle.lvs_spec.specs.Limits.{maxCertificates, bindingWords, pathWords}
 use Rattle.lvs_spec.specs.Model.{Model}
 use Rattle.lvs_spec.specs.Names.{NameReading, badName, goodName, packetName, keyName}
 use Rattle.lvs_spec.specs.Answers.{Refusal, Usable, unusable, usable, usableModel, plain, inputsIn}
@@ -49,9 +49,9 @@ isAllowed (SignAnswer.refused r) = false
 isAllowed notAllowed = false
 isAllowed (allowed p k) = true
 
--- room enough for every path
+-- room enough for the bindings and for every path
 unfoldable pub roomy : Buffers
-roomy = record { path = replicate pathWords 0 }
+roomy = record { words = replicate bindingWords 0; path = replicate pathWords 0 }
 
 -- the signing answer allows an entry as the key name
 unfoldable pub allows : Model → List ℕ → Entry → Bool
