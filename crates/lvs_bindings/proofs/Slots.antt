@@ -11,7 +11,6 @@ use lib.ListN.{length, getD, set, take, drop, length-drop, length-set, drop-of-l
 use lib.Seq.{take-all, set-out, set-set, set-getD}
 use Rattle.lvs_spec.specs.Limits.{maxTag}
 use Rattle.lvs_spec.specs.Walk.{Bindings, noBindings, bound, bindTag}
-use Rattle.lvs_spec.proofs.Buffer.{twice, twice-one}
 use Rattle.lvs_bindings.specs.Slots.{clear, Room, SlotOf, textFrom, bindingAt, binding, bindingsOf}
 use Rattle.lvs_bindings.specs.Slots.{hasWords, slotAt, boundWords, boundTag, clearedWords, without}
 use Rattle.lvs_bindings.specs.declared.Slot.{Slot}
@@ -37,8 +36,14 @@ module _ (packet key : List ℕ) (p : ℕ) where
 
 -- ---- two words for each Tag
 
+twice : (i : ℕ) → suc i * 2 ≡ suc (suc (i * 2))
+twice i = omega arith
+
+twice-one : (i : ℕ) → suc (suc (i * 2)) + 1 ≡ suc (suc (i * 2 + 1))
+twice-one i = omega arith
+
 module _ (packet key : List ℕ) where
-  getD-bindings : (i : ℕ) (words : List ℕ) → getD (bindingsOf packet key words) i none ≡ binding packet key (getD words (i * 2) 0) (getD words (i * 2 + 1) 0)
+  pub getD-bindings : (i : ℕ) (words : List ℕ) → getD (bindingsOf packet key words) i none ≡ binding packet key (getD words (i * 2) 0) (getD words (i * 2 + 1) 0)
   unfolding bindingsOf binding
   getD-bindings zero [] = refl
   getD-bindings zero (p ∷ []) = refl
@@ -155,7 +160,7 @@ binding-some packet key p n e = rw (ne-eqb n 0 e)
 
 -- slots with all their words
 module _ {words : List ℕ} (room : Room words) (packet key : List ℕ) where
-  all-bindings : length (bindingsOf packet key words) ≡ maxTag
+  pub all-bindings : length (bindingsOf packet key words) ≡ maxTag
   all-bindings = bindings-length packet key maxTag words (room .is)
 
   -- a Tag that has no words is bound to nothing

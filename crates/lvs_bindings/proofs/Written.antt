@@ -1,79 +1,89 @@
--- The words of a match, as their loop writes them. Assumes nothing.
-use Prim.Native.Nat.{ℕ, zero, suc, _+_, _-_, _*_, _≤_, _<_}
+-- The words for a caller, as their loop writes them. Assumes nothing.
+use Prim.Native.Nat.{ℕ, suc, _+_, _-_, _*_, _≤_, _<_}
 use mathlib.Core.Path.{_≡_, refl, sym, ap, _∙_}
 use mathlib.Core.Bool.{Bool, true, false, cond}
-use mathlib.Core.List.{List, [], _∷_, _++_}
+use mathlib.Core.List.{List, [], _∷_, _++_, append-assoc, append-nil}
+use mathlib.Core.Option.{Option, none, some}
 use native.Mathlib.Omega.{arith}
-use borrow.Author.Tests.{ne-eqb, lt-ltb, le-ltb, eqb-true}
+use borrow.Author.Tests.{ne-eqb, lt-ltb, le-ltb}
 use lib.Dec.{eqb}
-use lib.ListN.{length, drop, getD, set, length-set, drop-of-length-le}
-use lib.Seq.{paste, paste-zero, paste-suc, drop-cons, take-all}
+use lib.ListN.{length, drop, take, getD, set, length-set}
+use lib.Seq.{take-suc, take-all, drop-cons, set-append-seam, length-take-le}
 use Rattle.lvs_spec.specs.Limits.{maxTag, bindingWords}
-use Rattle.lvs_spec.specs.Walk.{Bindings}
-use Rattle.lvs_spec.specs.Answers.{words, boundCount}
-use Rattle.lvs_bindings.specs.Slots.{slotWords, Room, placeIn, bindingAt, binding, bindingsOf, startWord}
-use Rattle.lvs_spec.proofs.Buffer.{twice, twice-one}
+use Rattle.lvs_spec.specs.Walk.{packetOrigin, keyOrigin, Binding, Bindings}
+use Rattle.lvs_spec.specs.Answers.{tagWords, words, boundCount}
+use Rattle.lvs_spec.proofs.Lists.{each-append}
+use Rattle.lvs_spec.proofs.Buffer.{words-length}
+use Rattle.lvs_bindings.specs.Slots.{Room, placeIn, originOf, bindingAt, binding, bindingsOf, WordsOf, Wrote}
+use Rattle.lvs_bindings.specs.declared.TagWords.{TagWords}
+use Rattle.lvs_bindings.proofs.Slots.{getD-bindings, all-bindings}
 
--- ---- one binding
+-- ---- one Tag
 
-module _ (packet key : List ℕ) (p n : ℕ) where
-  word-none : n ≡ 0 → startWord (binding packet key p n) ≡ 0
-  unfolding binding
-  word-none e = rw e
+module _ (packet : List ℕ) (p n : ℕ) where
+  pub words-none : n ≡ 0 → WordsOf packet p n (record { start = 0; size = 0; origin = 0 })
+  unfolding binding tagWords
+  words-none e = record { are = λ key. rw e }
 
-  pub place-none : n ≡ 0 → 0 ≡ startWord (binding packet key p n)
-  place-none e = sym (word-none e)
+  pub words-packet : (n ≡ 0 → ⊥) → p < length packet → WordsOf packet p n (record { start = p; size = n; origin = packetOrigin })
+  unfolding binding bindingAt placeIn originOf tagWords
+  words-packet e h = record { are = λ key. rw (ne-eqb n 0 e, lt-ltb p (length packet) h) }
 
-  pub place-here : (n ≡ 0 → ⊥) → p < length packet → p ≡ startWord (binding packet key p n)
-  unfolding binding bindingAt placeIn
-  place-here e h = rw (ne-eqb n 0 e, lt-ltb p (length packet) h)
+  pub words-key : (n ≡ 0 → ⊥) → length packet ≤ p → WordsOf packet p n (record { start = p - length packet; size = n; origin = keyOrigin })
+  unfolding binding bindingAt placeIn originOf tagWords
+  words-key e h = record { are = λ key. rw (ne-eqb n 0 e, le-ltb p (length packet) h) }
 
-  pub place-there : (n ≡ 0 → ⊥) → length packet ≤ p → p - length packet ≡ startWord (binding packet key p n)
-  unfolding binding bindingAt placeIn
-  place-there e h = rw (ne-eqb n 0 e, le-ltb p (length packet) h)
-
-  words-cons : (bs : Bindings) → words (binding packet key p n ∷ bs) ≡ startWord (binding packet key p n) ∷ n ∷ words bs
-  unfolding binding bindingAt words
-  words-cons bs = go (eqb n 0) refl
-    where
-      go : (t : Bool) → eqb n 0 ≡ t → words (binding packet key p n ∷ bs) ≡ startWord (binding packet key p n) ∷ n ∷ words bs
-      go true e = let z = eqb-true n 0 e in rw (z, words)
-      go false e = rw (e, words)
-
-  count-cons : (bs : Bindings) → boundCount (binding packet key p n ∷ bs) ≡ cond (eqb n 0) 0 1 + boundCount bs
+  one-more : (key : List ℕ) (s : Bindings) → boundCount (s ++ (binding packet key p n ∷ [])) ≡ boundCount s + cond (eqb n 0) 0 1
   unfolding binding boundCount
-  count-cons bs = go (eqb n 0) refl
+  one-more key [] = go (eqb n 0) refl
     where
-      go : (t : Bool) → eqb n 0 ≡ t → boundCount (binding packet key p n ∷ bs) ≡ cond (eqb n 0) 0 1 + boundCount bs
+      go : (t : Bool) → eqb n 0 ≡ t → boundCount (binding packet key p n ∷ []) ≡ 0 + cond (eqb n 0) 0 1
       go true e = rw (e, boundCount) (omega arith)
       go false e = rw (e, boundCount) (omega arith)
+  one-more key (none ∷ s) = one-more key s
+  one-more key (some d ∷ s) = omega (arith, one-more key s)
 
--- ---- all of them
+-- ---- the loop that writes them
 
-module _ (packet key : List ℕ) where
-  first-word : (i : ℕ) (slots : List ℕ) → i * 2 + 1 < length slots
-      → getD (words (bindingsOf packet key slots)) (i * 2) 0 ≡ startWord (binding packet key (getD slots (i * 2) 0) (getD slots (i * 2 + 1) 0))
-  unfolding bindingsOf
-  first-word i [] h = absurd (omega arith)
-  first-word i (p ∷ []) h = absurd (omega arith)
-  first-word zero (p ∷ n ∷ slots) h = rw words-cons
-  first-word (suc i) (p ∷ n ∷ slots) h = rw (words-cons, twice i, twice-one i) (first-word i slots (omega arith))
+-- three words at the seam of two lists
+set-seam : (xs : List ℕ) (a b c : ℕ) (rest : List ℕ) (x y z : ℕ)
+    → set (set (set (xs ++ (a ∷ b ∷ c ∷ rest)) (length xs) x) (length xs + 1) y) (length xs + 2) z ≡ xs ++ (x ∷ y ∷ z ∷ rest)
+set-seam [] a b c rest x y z = refl
+set-seam (u ∷ xs) a b c rest x y z =
+    let e : suc (length xs) + 1 ≡ suc (length xs + 1) = omega arith in
+    let f : suc (length xs) + 2 ≡ suc (length xs + 2) = omega arith in
+    rw (e, f) (ap (λ (r : List ℕ). u ∷ r) (set-seam xs a b c rest x y z))
 
-  second-word : (i : ℕ) (slots : List ℕ) → i * 2 + 1 < length slots → getD (words (bindingsOf packet key slots)) (i * 2 + 1) 0 ≡ getD slots (i * 2 + 1) 0
-  unfolding bindingsOf
-  second-word i [] h = absurd (omega arith)
-  second-word i (p ∷ []) h = absurd (omega arith)
-  second-word zero (p ∷ n ∷ slots) h = rw words-cons
-  second-word (suc i) (p ∷ n ∷ slots) h = rw (words-cons, twice i, twice-one i) (second-word i slots (omega arith))
+set-three : (xs : List ℕ) (a b c : ℕ) (rest : List ℕ) (x y z : ℕ) {n : ℕ} → length xs ≡ n
+    → set (set (set (xs ++ (a ∷ b ∷ c ∷ rest)) n x) (n + 1) y) (n + 2) z ≡ xs ++ (x ∷ y ∷ z ∷ rest)
+set-three xs a b c rest x y z e = rw (← e) (set-seam xs a b c rest x y z)
 
-  -- as many words as slots, where those are even in number
-  words-length : (k : ℕ) (slots : List ℕ) → length slots ≡ k * 2 → length (words (bindingsOf packet key slots)) ≡ k * 2
-  unfolding bindingsOf words
-  words-length zero [] h = refl
-  words-length zero (p ∷ slots) h = absurd (omega arith)
-  words-length (suc k) [] h = absurd (omega arith)
-  words-length (suc k) (p ∷ []) h = absurd (omega arith)
-  words-length (suc k) (p ∷ n ∷ slots) h = rw words-cons (omega (arith, words-length k slots (omega arith)))
+drop-three : (xs : List ℕ) (n : ℕ) → n + 2 < length xs → drop n xs ≡ getD xs n 0 ∷ getD xs (n + 1) 0 ∷ getD xs (n + 2) 0 ∷ drop (n + 3) xs
+drop-three xs n h =
+    let e : suc n ≡ n + 1 = omega arith in
+    let f : suc (n + 1) ≡ n + 2 = omega arith in
+    let g : suc (n + 2) ≡ n + 3 = omega arith in
+    drop-cons xs n 0 (omega arith) ∙ rw e (ap (λ (r : List ℕ). getD xs n 0 ∷ r) (drop-cons xs (n + 1) 0 (omega arith) ∙
+    rw f (ap (λ (r : List ℕ). getD xs (n + 1) 0 ∷ r) (drop-cons xs (n + 2) 0 h ∙ rw g))))
+
+words-more : (s : Bindings) (o : Option Binding) (rest : List ℕ) → words (s ++ (o ∷ [])) ++ rest ≡ words s ++ (tagWords o ++ rest)
+unfolding words tagWords
+words-more [] none rest = refl
+words-more [] (some d) rest = refl
+words-more (none ∷ s) o rest = ap (λ (r : List ℕ). 0 ∷ 0 ∷ 0 ∷ r) (words-more s o rest)
+words-more (some d ∷ s) o rest = ap (λ (r : List ℕ). d .component .start ∷ d .component .size ∷ d .origin ∷ r) (words-more s o rest)
+
+pub record Written (packet slots before : List ℕ) (buffer : List ℕ) (bound i : ℕ) : Type 0 where
+  pub room : i ≤ maxTag
+  pub long : length buffer ≡ length before
+  pub copied : (key : List ℕ) → buffer ≡ words (take i (bindingsOf packet key slots)) ++ drop (i * 3) before
+  pub counted : (key : List ℕ) → bound ≡ boundCount (take i (bindingsOf packet key slots))
+  pub few : bound ≤ i
+
+pub written-first : (packet slots before : List ℕ) → Written packet slots before before 0 0
+unfolding words boundCount
+written-first packet slots before =
+    record { room = omega arith; long = refl; copied = λ key. refl; counted = λ key. refl; few = omega arith }
 
 pub one-le : (n : ℕ) {b : ℕ} → b ≡ cond (eqb n 0) 0 1 → b ≤ 1
 one-le n e = rw e (go (eqb n 0))
@@ -82,73 +92,52 @@ one-le n e = rw e (go (eqb n 0))
     go true = omega arith
     go false = omega arith
 
--- ---- the loop that writes them
-
-pub record Written (name slots before : List ℕ) (buffer : List ℕ) (bound i : ℕ) : Type 0 where
-  pub room : i ≤ maxTag
-  pub long : length buffer ≡ length before
-  pub copied : buffer ≡ paste before 0 (words (bindingsOf name [] slots)) (i * 2)
-  pub counted : bound + boundCount (bindingsOf name [] (drop (i * 2) slots)) ≡ boundCount (bindingsOf name [] slots)
-  pub few : bound ≤ i
-
-pub written-first : (name slots before : List ℕ) → Written name slots before before 0 0
-written-first name slots before =
-    record { room = omega arith; long = refl; copied = paste-zero before 0 (words (bindingsOf name [] slots)); counted = omega arith; few = omega arith }
-
-module _ {name slots before buffer : List ℕ} {bound i : ℕ} (W : Written name slots before buffer bound i) (all-slots : Room slots)
+module _ {packet slots before buffer : List ℕ} {bound i : ℕ} (W : Written packet slots before buffer bound i) (all-slots : Room slots)
     (enough : bindingWords ≤ length before) where
-  pub written-next : i < maxTag → {w b : ℕ} → w ≡ startWord (binding name [] (getD slots (i * 2) 0) (getD slots (i * 2 + 1) 0))
+  -- the bindings of one Tag more
+  taken : i < maxTag → (key : List ℕ)
+      → take (i + 1) (bindingsOf packet key slots) ≡ take i (bindingsOf packet key slots) ++ (binding packet key (getD slots (i * 2) 0) (getD slots (i * 2 + 1) 0) ∷ [])
+  taken h key =
+      let S : Bindings = bindingsOf packet key slots in
+      let e : i + 1 ≡ suc i = omega arith in
+      rw e (take-suc S i none (omega (arith, all-bindings all-slots packet key)) ∙ ap (λ o. take i S ++ (o ∷ [])) (getD-bindings packet key i slots))
+
+  pub written-next : i < maxTag → {w : TagWords} {b : ℕ} → WordsOf packet (getD slots (i * 2) 0) (getD slots (i * 2 + 1) 0) w
       → b ≡ cond (eqb (getD slots (i * 2 + 1) 0) 0) 0 1 → b ≤ 1
-      → Written name slots before (set (set buffer (i * 2) w) (i * 2 + 1) (getD slots (i * 2 + 1) 0)) (bound + b) (i + 1)
-  unfolding bindingsOf
+      → Written packet slots before (set (set (set buffer (i * 3) (w .start)) (i * 3 + 1) (w .size)) (i * 3 + 2) (w .origin)) (bound + b) (i + 1)
   written-next h {w} {b} w-is b-is b-le =
-      let X : List ℕ = words (bindingsOf name [] slots) in
-      let l : length X ≡ slotWords = words-length name [] maxTag slots (all-slots .is) in
-      let d : drop (i * 2) slots ≡ getD slots (i * 2) 0 ∷ getD slots (i * 2 + 1) 0 ∷ drop ((i + 1) * 2) slots = two in
-      let c : (bound + b) + boundCount (bindingsOf name [] (drop ((i + 1) * 2) slots)) ≡ boundCount (bindingsOf name [] slots) =
-      let n = count-cons name [] (getD slots (i * 2) 0) (getD slots (i * 2 + 1) 0) (bindingsOf name [] (drop ((i + 1) * 2) slots)) in
-      omega (arith, W .counted, ap (λ (x : List ℕ). boundCount (bindingsOf name [] x)) d, n) in
       record {
         room = omega arith;
         long = simp length-set (W .long);
-        copied = copy;
-        counted = c;
+        copied = copied;
+        counted = counted;
         few = omega (arith, W .few);
       }
     where
-      two : drop (i * 2) slots ≡ getD slots (i * 2) 0 ∷ getD slots (i * 2 + 1) 0 ∷ drop ((i + 1) * 2) slots
-      two =
-          let e : suc (i * 2) ≡ i * 2 + 1 = omega arith in
-          let f : suc (i * 2 + 1) ≡ (i + 1) * 2 = omega arith in
-          drop-cons slots (i * 2) 0 (omega arith) ∙ rw e (ap (λ (x : List ℕ). getD slots (i * 2) 0 ∷ x) (drop-cons slots (i * 2 + 1) 0 (omega arith) ∙ rw f))
+      counted : (key : List ℕ) → bound + b ≡ boundCount (take (i + 1) (bindingsOf packet key slots))
+      counted key =
+          let more = one-more packet (getD slots (i * 2) 0) (getD slots (i * 2 + 1) 0) key (take i (bindingsOf packet key slots)) in
+          rw (taken h key) (omega (arith, W .counted key, b-is, more))
 
-      copy : set (set buffer (i * 2) w) (i * 2 + 1) (getD slots (i * 2 + 1) 0) ≡ paste before 0 (words (bindingsOf name [] slots)) ((i + 1) * 2)
-      copy =
-          let X : List ℕ = words (bindingsOf name [] slots) in
-          let l : length X ≡ slotWords = words-length name [] maxTag slots (all-slots .is) in
-          let z : 0 + i * 2 ≡ i * 2 = omega arith in
-          let y : 0 + suc (i * 2) ≡ i * 2 + 1 = omega arith in
-          let e : suc (i * 2) ≡ i * 2 + 1 = omega arith in
-          let f : suc (suc (i * 2)) ≡ (i + 1) * 2 = omega arith in
-          let p : w ≡ getD X (i * 2) 0 = w-is ∙ sym (first-word name [] i slots (omega arith)) in
-          let q : getD slots (i * 2 + 1) 0 ≡ getD X (suc (i * 2)) 0 = sym (second-word name [] i slots (omega arith)) ∙ ap (λ (k : ℕ). getD X k 0) (sym e) in
-          let one : set (paste before 0 X (i * 2)) (i * 2) (getD X (i * 2) 0) ≡ paste before 0 X (suc (i * 2)) =
-          ap (λ (k : ℕ). set (paste before 0 X (i * 2)) k (getD X (i * 2) 0)) (sym z) ∙ paste-suc before 0 X (i * 2) 0 (omega arith) (omega arith) in
-          let two : set (paste before 0 X (suc (i * 2))) (i * 2 + 1) (getD X (suc (i * 2)) 0) ≡ paste before 0 X (suc (suc (i * 2))) =
-          ap (λ (k : ℕ). set (paste before 0 X (suc (i * 2))) k (getD X (suc (i * 2)) 0)) (sym y) ∙
-          paste-suc before 0 X (suc (i * 2)) 0 (omega arith) (omega arith) in
-          (λ j. set (set (W .copied j) (i * 2) (p j)) (i * 2 + 1) (q j)) ∙
-          ap (λ (b : List ℕ). set b (i * 2 + 1) (getD X (suc (i * 2)) 0)) one ∙ two ∙ ap (paste before 0 X) f
+      copied : (key : List ℕ) → set (set (set buffer (i * 3) (w .start)) (i * 3 + 1) (w .size)) (i * 3 + 2) (w .origin)
+          ≡ words (take (i + 1) (bindingsOf packet key slots)) ++ drop ((i + 1) * 3) before
+      copied key =
+          let S : Bindings = bindingsOf packet key slots in
+          let l : length (words (take i S)) ≡ i * 3 =
+          words-length (take i S) ∙ ap (λ n. n * 3) (length-take-le i S (omega (arith, all-bindings all-slots packet key))) in
+          let e : i * 3 + 3 ≡ (i + 1) * 3 = omega arith in
+          let rest : List ℕ = drop ((i + 1) * 3) before in
+          let d = rw e at (drop-three before (i * 3) (omega arith)) in
+          ap (λ r. set (set (set r (i * 3) (w .start)) (i * 3 + 1) (w .size)) (i * 3 + 2) (w .origin)) (W .copied key ∙ ap (λ r. words (take i S) ++ r) d) ∙
+          set-three (words (take i S)) _ _ _ rest (w .start) (w .size) (w .origin) l ∙ ap (λ ws. words (take i S) ++ (ws ++ rest)) (w-is .are key) ∙
+          sym (rw (taken h key) (words-more (take i S) _ rest))
 
-  pub written-words : maxTag ≤ i → buffer ≡ words (bindingsOf name [] slots) ++ drop bindingWords before
-  written-words h =
+  pub written-all : maxTag ≤ i → Wrote packet slots before bound buffer
+  written-all h =
       let e : i ≡ maxTag = omega (arith, W .room) in
-      let all = take-all bindingWords (words (bindingsOf name [] slots)) (omega (arith, words-length name [] maxTag slots (all-slots .is))) in
-      W .copied ∙ rw e (ap (λ (x : List ℕ). x ++ drop bindingWords before) all)
-
-  pub written-count : maxTag ≤ i → bound ≡ boundCount (bindingsOf name [] slots)
-  unfolding bindingsOf boundCount
-  written-count h =
-      let e : i ≡ maxTag = omega (arith, W .room) in
-      let z : drop (i * 2) slots ≡ [] = drop-of-length-le slots {i = i * 2} (omega arith) in
-      omega (arith, W .counted, ap (λ (x : List ℕ). boundCount (bindingsOf name [] x)) z)
+      let all : (key : List ℕ) → take maxTag (bindingsOf packet key slots) ≡ bindingsOf packet key slots =
+      λ key. take-all maxTag (bindingsOf packet key slots) (omega (arith, all-bindings all-slots packet key)) in
+      record {
+        counted = λ key. W .counted key ∙ rw (e, all key);
+        words-are = λ key. W .copied key ∙ rw (e, all key);
+      }

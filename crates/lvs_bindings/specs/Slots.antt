@@ -3,14 +3,16 @@
 use Prim.Native.Nat.{ℕ, zero, suc, _+_, _-_, _*_}
 use mathlib.Core.Path.{_≡_}
 use mathlib.Core.Bool.{Bool, cond, _&&_}
-use mathlib.Core.List.{List, [], _∷_}
+use mathlib.Core.List.{List, [], _∷_, _++_}
 use mathlib.Core.Option.{Option, none, some}
 use lib.Dec.{eqb, leb, ltb}
 use lib.ListN.{length, drop, getD, set, replicate}
-use Rattle.lvs_spec.specs.Limits.{maxTag}
+use Rattle.lvs_spec.specs.Limits.{maxTag, bindingWords}
 use Rattle.lvs_spec.specs.Model.{componentOf}
-use Rattle.lvs_spec.specs.Walk.{Binding, Bindings}
+use Rattle.lvs_spec.specs.Walk.{packetOrigin, keyOrigin, Binding, Bindings}
+use Rattle.lvs_spec.specs.Answers.{tagWords, words, boundCount}
 use Rattle.lvs_bindings.specs.declared.Slot.{Slot}
+use Rattle.lvs_bindings.specs.declared.TagWords.{TagWords}
 
 -- the number of words, derived from that of Tags
 abbrev pub slotWords : ℕ
@@ -31,10 +33,17 @@ textFrom packet key p = cond (ltb p (length packet)) (drop p packet) (drop (p - 
 unfoldable pub placeIn : List ℕ → ℕ → ℕ
 placeIn packet p = cond (ltb p (length packet)) p (p - length packet)
 
+-- and which name that is
+unfoldable pub originOf : List ℕ → ℕ → ℕ
+originOf packet p = cond (ltb p (length packet)) packetOrigin keyOrigin
+
 -- a component of n bytes at a place of the two names
 unfoldable pub bindingAt : List ℕ → List ℕ → ℕ → ℕ → Binding
 bindingAt packet key p n =
-    record { component = record { start = placeIn packet p; size = n; content = componentOf (textFrom packet key p) } }
+    record {
+      component = record { start = placeIn packet p; size = n; content = componentOf (textFrom packet key p) };
+      origin = originOf packet p;
+    }
 
 -- what a Tag's two words stand for
 unfoldable pub binding : List ℕ → List ℕ → ℕ → ℕ → Option Binding
@@ -76,9 +85,13 @@ unfoldable pub without : ℕ → Bindings → Bindings
 without zero s = s
 without (suc i) s = set s i none
 
--- ---- the lent words
+-- ---- the words for a caller, which do not depend on what the key's name holds
 
--- the first of a binding's two words in the lent buffer
-abbrev pub startWord : Option Binding → ℕ
-startWord none = 0
-startWord (some b) = b .component .start
+-- those of one Tag
+pub record WordsOf (packet : List ℕ) (p n : ℕ) (w : TagWords) : Type 0 where
+  pub are : (key : List ℕ) → w .start ∷ w .size ∷ w .origin ∷ [] ≡ tagWords (binding packet key p n)
+
+-- those of all Tags written over the first ones of a buffer, and how many are bound
+pub record Wrote (packet slots before : List ℕ) (count : ℕ) (after : List ℕ) : Type 0 where
+  pub counted : (key : List ℕ) → count ≡ boundCount (bindingsOf packet key slots)
+  pub words-are : (key : List ℕ) → after ≡ words (bindingsOf packet key slots) ++ drop bindingWords before

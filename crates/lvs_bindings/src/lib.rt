@@ -1,15 +1,14 @@
-// The store of bindings: two words for each Tag, where its component is in the two names, and how long; and the words of a match made of it.
+// The store of bindings: two words for each Tag, where its component is in the two names, and how long; and the three
+// words for each that a caller gets.
 //
 // A layer below the public calls: `requires` asks for words that the calls have made themselves, and for places and sizes that fit a word.
 ghost use mathlib.Core.Path.{_≡_};
 ghost use mathlib.Core.Bool.{cond};
-ghost use mathlib.Core.List.{[], _++_};
 ghost use Prim.Native.Nat.{_+_, _*_, _≤_, _<_};
 ghost use lib.Dec.{eqb};
-ghost use lib.ListN.{length, drop};
+ghost use lib.ListN.{length};
 ghost use Rattle.lvs_spec.specs.Limits.{maxTag, bindingWords};
-ghost use Rattle.lvs_spec.specs.Answers.{words, boundCount};
-ghost use Rattle.lvs_bindings.specs.Slots.{Room, SlotOf, textFrom, binding, bindingsOf, boundWords, boundTag, clearedWords, startWord};
+ghost use Rattle.lvs_bindings.specs.Slots.{Room, SlotOf, textFrom, boundWords, boundTag, clearedWords, WordsOf, Wrote};
 
 // A start and a size for each Tag.
 pub const SLOT_WORDS: usize = lvs_spec::MAX_TAG as usize * 2;
@@ -18,6 +17,18 @@ pub const SLOT_WORDS: usize = lvs_spec::MAX_TAG as usize * 2;
 pub struct Slot {
     pub start: u32,
     pub size: u32,
+}
+
+// The name that a binding is of.
+pub const PACKET_ORIGIN: u32 = 1;
+
+pub const KEY_ORIGIN: u32 = 2;
+
+// The three words of a Tag for a caller: where its component starts in the name of origin, its size, and the origin; all 0 for an unbound Tag.
+pub struct TagWords {
+    pub start: u32,
+    pub size: u32,
+    pub origin: u32,
 }
 
 // The two names' bytes from a place on.
@@ -81,11 +92,10 @@ pub fn unbind_tag(slots: &mut [u32; SLOT_WORDS], tag: u64)
     slots[i + 1] = 0;
 }
 
-// Writes the words of a match over the first ones of a buffer, and says how many Tags are bound.
-pub fn write_words(name: &[u8], slots: &[u32; SLOT_WORDS], buffer: &mut [u32]) -> u32
+// Writes the words of the bindings over the first ones of a buffer, and says how many Tags are bound.
+pub fn write_words(packet: &[u8], slots: &[u32; SLOT_WORDS], buffer: &mut [u32]) -> u32
     requires { ⌜ Room (now slots) × (bindingWords ≤ length (now buffer)) ⌝ }
-    ensures { λ r. ⌜ (r ≡ boundCount (bindingsOf (now (name .entry)) [] (now (slots .entry))))
-        × (now (buffer .exit) ≡ words (bindingsOf (now (name .entry)) [] (now (slots .entry))) ++ drop bindingWords (now (buffer .entry))) ⌝ }
+    ensures { λ r. ⌜ Wrote (now (packet .entry)) (now (slots .entry)) (now (buffer .entry)) r (now (buffer .exit)) ⌝ }
 {
     let mut bound: u32 = 0;
     let mut i: usize = 0;
@@ -93,8 +103,10 @@ pub fn write_words(name: &[u8], slots: &[u32; SLOT_WORDS], buffer: &mut [u32]) -
         let start = slots[i * 2];
         let size = slots[i * 2 + 1];
         bound += one_if_bound(size);
-        buffer[i * 2] = place_of(name, start, size);
-        buffer[i * 2 + 1] = size;
+        let w = tag_words(packet, start, size);
+        buffer[i * 3] = w.start;
+        buffer[i * 3 + 1] = w.size;
+        buffer[i * 3 + 2] = w.origin;
         i += 1;
     }
     bound
@@ -109,15 +121,28 @@ fn one_if_bound(size: u32) -> u32
     1
 }
 
-// The start of a binding in its own name, 0 where there is none.
-fn place_of(name: &[u8], start: u32, size: u32) -> u32
-    ensures { λ r. ⌜ r ≡ startWord (binding (now (name .entry)) [] start size) ⌝ }
+// What the words of a slot come to: a place behind the packet's name is one in the key's.
+fn tag_words(packet: &[u8], start: u32, size: u32) -> TagWords
+    ensures { λ r. ⌜ WordsOf (now (packet .entry)) start size r ⌝ }
 {
     if size == 0 {
-        return 0;
+        return TagWords {
+            start: 0,
+            size: 0,
+            origin: 0,
+        };
     }
-    if (start as usize) < name.len() {
-        return start;
+    let n = packet.len();
+    if (start as usize) < n {
+        return TagWords {
+            start,
+            size,
+            origin: PACKET_ORIGIN,
+        };
     }
-    (start as usize - name.len()) as u32
+    TagWords {
+        start: (start as usize - n) as u32,
+        size,
+        origin: KEY_ORIGIN,
+    }
 }

@@ -1,18 +1,18 @@
--- `lvs_bindings::write_words` meets its contract. The invariant `Written`: the first 2i words are those of the match. Assumes nothing.
+-- `lvs_bindings::write_words` meets its contract. The invariant `Written`: the first 3i words are those of i Tags. Assumes nothing.
 use native.Mathlib.Omega.{arith}
 use borrow.Author.Needs.{needs}
 use Prim.Native.Nat.{_+_, _-_, _*_, _≤_}
 use lib.ListN.{getD, length-set}
 use Rattle.lvs_spec.specs.Limits.{maxTag}
-use Rattle.lvs_bindings.proofs.Written.{Written, written-first, written-next, written-words, written-count, one-le}
+use Rattle.lvs_bindings.proofs.Written.{Written, written-first, written-next, written-all, one-le}
 use Rattle.lvs_bindings.proofs.write_words.Statement.{statement}
 use Rattle.lvs_bindings.proofs.write_words.Tie as tie
 
 abbrev Inv : tie.InvT-loop
-Inv name slots buffer₀ bound₀ i₀ buffer bound i = Written name slots buffer₀ buffer bound i
+Inv packet slots buffer₀ bound₀ i₀ buffer bound i = Written packet slots buffer₀ buffer bound i
 
 abbrev μ : tie.MeasureT-loop
-μ name slots buffer₀ bound₀ i₀ buffer bound i = maxTag - i
+μ packet slots buffer₀ bound₀ i₀ buffer bound i = maxTag - i
 
 -- where the function and this turn of its loop began
 abbrev start : tie.At-loop Inv μ → tie.Start Inv μ
@@ -41,11 +41,16 @@ slice-write-buffer-2 c =
     let l = turn (c .before) .before in
     simp length-set (omega (arith, l .loop .inv .long, start l .pre .1))
 
+slice-write-buffer-3 : tie.Need-slice-write-buffer-3 Inv μ
+slice-write-buffer-3 c =
+    let l = turn (c .before) .before in
+    simp length-set (omega (arith, l .loop .inv .long, start l .pre .1))
+
 loop-again : tie.Need-loop-again Inv μ
 loop-again c =
     let l = turn (c .before) .before in
     let p = start l .pre in
-    written-next (l .loop .inv) (p .0) (p .1) (turn (c .before) .loop-test .taken) (c .place-of .ensures) (c .before .one-if-bound .ensures)
+    written-next (l .loop .inv) (p .0) (p .1) (turn (c .before) .loop-test .taken) (c .tag-words .ensures) (c .before .one-if-bound .ensures)
     (added (c .before))
 
 same-length : tie.Need-same-length Inv μ
@@ -55,7 +60,7 @@ returns : tie.Need-returns Inv μ
 returns c =
     let l = c .before in
     let p = start l .pre in
-    (written-count (l .loop .inv) (p .0) (p .1) (c .loop-test .left), written-words (l .loop .inv) (p .0) (p .1) (c .loop-test .left))
+    written-all (l .loop .inv) (p .0) (p .1) (c .loop-test .left)
 
 pub write-words-spec : {M : Type 1} → statement M
 write-words-spec =
@@ -81,6 +86,10 @@ write-words-spec =
     (λ c. search needs)
     (λ c. search needs)
     slice-write-buffer-2
+    (λ c. search needs)
+    (λ c. search needs)
+    (λ c. search needs)
+    slice-write-buffer-3
     (λ c. search needs)
     (λ c. search needs)
     loop-again
