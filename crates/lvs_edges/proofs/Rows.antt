@@ -7,15 +7,14 @@ use borrow.Author.Tests.{lt-ltb, le-ltb}
 use lib.ListN.{length, take, drop, length-drop}
 use lib.Seq.{length-take-le}
 use Rattle.lvs_spec.specs.Limits.{maxNameBytes}
-use Rattle.lvs_spec.specs.Model.{componentOf}
-use Rattle.lvs_spec.specs.Walk.{packetRow, keyRow}
+use Rattle.lvs_spec.specs.Walk.{rowOf}
 use Rattle.lvs_names.specs.Rows.{rowFrom}
 use Rattle.lvs_names.specs.Contents.{RowStep, ComponentAt}
 use Rattle.lvs_names.specs.declared.ComponentRead.{ComponentRead}
 use Rattle.lvs_names.specs.declared.ComponentRead.the-variants.{Component as AComponent, End as Ended}
-use Rattle.lvs_bindings.specs.Slots.{textFrom, placeIn, bindingAt}
+use Rattle.lvs_bindings.specs.Slots.{textFrom, placeIn, originOf, bindingAt}
 use Rattle.lvs_edges.specs.Crossing.{Stands}
-use Rattle.lvs_edges.specs.Sides.{nameFor, rowFor, textPlace}
+use Rattle.lvs_edges.specs.Sides.{nameFor, originFor, rowFor, textPlace}
 use Rattle.lvs_names.specs.declared.Side.{Side}
 use Rattle.lvs_names.specs.declared.Side.the-variants.{Packet, Key}
 
@@ -53,28 +52,25 @@ module _ (packet key : List ℕ) (side : Side) where
         go Packet h = rw (lt-ltb at (length packet) h)
         go Key h = rw (le-ltb (length packet + at) (length packet) (omega arith)) (omega arith)
 
+    origin-is : originOf packet (textPlace packet side at) ≡ originFor side
+    unfolding originOf textPlace nameFor
+    origin-is = go side inside
+      where
+        go : (g : Side) → at < length (nameFor packet key g) → originOf packet (textPlace packet g at) ≡ originFor g
+        go Packet h = rw (lt-ltb at (length packet) h)
+        go Key h = rw (le-ltb (length packet + at) (length packet) (omega arith))
+
   -- the row goes on with the component that was found
   pub row-found : {at header stop : ℕ} → RowStep (nameFor packet key side) at header stop
       → rowFor packet key side at ≡ bindingAt packet key (textPlace packet side at) (stop - at) ∷ rowFor packet key side stop
-  unfolding bindingAt rowFor nameFor packetRow keyRow
-  row-found {at} {header} {stop} f =
+  unfolding bindingAt rowFor rowOf
+  row-found {at} f =
       let inside : at < length (nameFor packet key side) = omega (arith, f .after, f .within) in
-      rw (place-is at inside, text-is at inside) (go side f)
-    where
-      go : (g : Side) → RowStep (nameFor packet key g) at header stop
-          → rowFor packet key g at ≡
-          record { component = record { start = at; size = stop - at; content = componentOf (drop at (nameFor packet key g)) } } ∷
-          rowFor packet key g stop
-      go Packet f = rw (f .is)
-      go Key f = rw (f .is)
+      rw (place-is at inside, text-is at inside, origin-is at inside, f .is)
 
   row-ended : (at : ℕ) → rowFrom (nameFor packet key side) at ≡ [] → rowFor packet key side at ≡ []
-  unfolding rowFor nameFor packetRow keyRow
-  row-ended at e = go side e
-    where
-      go : (g : Side) → rowFrom (nameFor packet key g) at ≡ [] → rowFor packet key g at ≡ []
-      go Packet e = rw e
-      go Key e = rw e
+  unfolding rowFor rowOf
+  row-ended at e = rw e
 
 -- ---- from what the callees ensure
 

@@ -2,7 +2,7 @@
 use Prim.Native.Nat.{ℕ, _+_}
 use mathlib.Core.List.{List}
 use lib.ListN.{length}
-use Rattle.lvs_spec.specs.Walk.{Binding, packetRow, keyRow}
+use Rattle.lvs_spec.specs.Walk.{packetOrigin, keyOrigin, Binding, rowOf}
 use Rattle.lvs_names.specs.Rows.{rowFrom}
 use Rattle.lvs_names.specs.declared.Side.{Side}
 use Rattle.lvs_names.specs.declared.Side.the-variants.{Packet, Key}
@@ -11,10 +11,13 @@ unfoldable pub nameFor : List ℕ → List ℕ → Side → List ℕ
 nameFor packet key Packet = packet
 nameFor packet key Key = key
 
+abbrev pub originFor : Side → ℕ
+originFor Packet = packetOrigin
+originFor Key = keyOrigin
+
 -- its components from a place on, as the walk binds them
 unfoldable pub rowFor : List ℕ → List ℕ → Side → ℕ → List Binding
-rowFor packet key Packet at = packetRow (rowFrom packet at)
-rowFor packet key Key at = keyRow (rowFrom key at)
+rowFor packet key side at = rowOf (originFor side) (rowFrom (nameFor packet key side) at)
 
 -- where a place of it lies in the two names' text
 unfoldable pub textPlace : List ℕ → Side → ℕ → ℕ

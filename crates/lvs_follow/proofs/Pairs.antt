@@ -61,7 +61,7 @@ module _ (m : Model) (packet key path : List ℕ) (p k : Row) (count : length (r
   -- what the packet's words lead to
   packet-led : {o : Option Match} → follow m (rowFor packet key Packet (p .start)) (take (p .count) path) (begin m (bindingsOf packet key before)) ≡ o
       → follow m (packetRow ps) (take (length ps) path) (begin m noBindings) ≡ o
-  unfolding rowFor
+  unfolding rowFor nameFor
   packet-led e = rw (none-bound packet key clear-is, ← count) at e
 
   pub packet-nowhere : {r : End} {after : List ℕ} → Led m packet key Packet (p .start) (take (p .count) path) before r after → r ≡ Nowhere
@@ -74,7 +74,7 @@ module _ (m : Model) (packet key path : List ℕ) (p k : Row) (count : length (r
     module _ {rest : List ℕ} (rest-is : rest ≡ drop (p .count) path) where
       key-led : {o : Option Match} → follow m (rowFor packet key Key (k .start)) rest (begin m (bindingsOf packet key middle)) ≡ o
           → follow m (keyRow ks) (drop (length ps) path) (begin m (bindingsOf packet key middle)) ≡ o
-      unfolding rowFor
+      unfolding rowFor nameFor
       key-led e = rw (rest-is, ← count) at e
 
       pub key-nowhere : {r : End} {after : List ℕ} → Led m packet key Key (k .start) rest middle r after → r ≡ Nowhere

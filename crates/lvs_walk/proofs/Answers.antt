@@ -77,7 +77,7 @@ pub match-first : (m : Model) (name : List ℕ) (from v depth : ℕ) {before aft
     (hits m [] AnyMatch (rowFor name [] (sideOf AnyMatch) from) (record { node = v; bindings = bindingsOf name [] before; path = [] }))
     depth before path r after path-after
     → FirstMatch m (rowFrom name from) name r after
-unfolding hits sideOf rowFor packetMatches packetTrace begin firstFound
+unfolding hits sideOf rowFor nameFor packetMatches packetTrace begin firstFound
 match-first m name from v depth {before} {after} {r = r} start-is none-is f =
     let t : List (Event Match) = packetTrace m (rowFrom name from) in
     let same : hitOf name [] r after (f .crossed) ≡ mapped matchHit (first (answers t)) =
@@ -142,7 +142,7 @@ pub pair-first : (m : Model) (packet key : List ℕ) (from kfrom v : ℕ) (path 
     (record { node = v; bindings = bindingsOf packet key before; path = [] }))
     0 before path r after path-after
     → FirstPair m (rowFrom packet from) (rowFrom key kfrom) path r path-after
-unfolding hits sideOf rowFor pairs pairTrace packetTrace begin firstFound
+unfolding hits sideOf rowFor nameFor pairs pairTrace packetTrace begin firstFound
 pair-first m packet key from kfrom v path {before} {after} {path-after} {r} start-is none-is f =
     let ps = rowFrom packet from in
     let ks = rowFrom key kfrom in

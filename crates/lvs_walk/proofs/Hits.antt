@@ -104,7 +104,7 @@ module _ (m : Model) (packet key : List ℕ) (goal : Goal) (v at depth : ℕ) (s
       (hits m key (Key v) (rowFor packet key (sideOf (Key v)) from) (record { node = start; bindings = bindingsOf packet key slots; path = [] }))
       depth slots path q slots-after path-after
       → Ends q slots-after path-after
-  unfolding worth hits sideOf rowFor keyTrace begin
+  unfolding worth hits sideOf rowFor nameFor keyTrace begin
   end-packet g s f =
       record {
         crossed = f .crossed;
