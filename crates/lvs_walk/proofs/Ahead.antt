@@ -9,10 +9,10 @@ use Rattle.lvs_spec.specs.Model.{Model, Edge, destination, edges, nodeAt}
 use Rattle.lvs_spec.specs.Walk.{Binding, Bindings, bindingsAfter, Match, Event, looked, found, continue, begin, cross, trace, keyTrace, lists}
 use Rattle.lvs_spec.proofs.Trace.{each-same}
 use Rattle.lvs_names.specs.Rows.{rowFrom}
-use Rattle.lvs_walk.specs.Search.{Hit, listed, worth, hits}
+use Rattle.lvs_walk.specs.Search.{Hit, listed, worth, hits, mapped}
 use Rattle.lvs_walk.specs.declared.Goal.{Goal}
 use Rattle.lvs_walk.specs.declared.Goal.the-variants.{Match as AnyMatch, Packet, Key}
-use Rattle.lvs_walk.proofs.Retold.{mapped, retold, map-append, retold-each}
+use Rattle.lvs_walk.proofs.Retold.{retold, map-append, retold-each}
 
 -- these ordinals in front of a match's path, and of a hit's
 abbrev pub matchAfter : List ℕ → Match → Match

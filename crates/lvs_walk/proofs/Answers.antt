@@ -5,29 +5,30 @@ use mathlib.Core.Bool.{Bool, true, false}
 use mathlib.Core.List.{List, [], _∷_, _++_, map}
 use mathlib.Core.Option.{Option, none, some, Option·some-injective}
 use native.Mathlib.Omega.{arith}
-use lib.ListN.{length}
+use lib.ListN.{length, drop}
 use Rattle.tlv.specs.Lists.{each, when, first}
-use Rattle.lvs_spec.specs.Limits.{maxNameBytes}
+use Rattle.lvs_spec.specs.Limits.{maxNameBytes, bindingWords}
 use Rattle.lvs_spec.specs.Model.{Model, modelOf}
 use Rattle.lvs_spec.specs.Names.{Component}
 use Rattle.lvs_spec.specs.Walk.{Match, Pair, Event, looked, found, continue, answers, begin, packetTrace, packetMatches}
 use Rattle.lvs_spec.specs.Walk.{keyTrace, pairPath, lists, signed, signTrace, pairTrace, pairs}
-use Rattle.lvs_spec.specs.Answers.{SignAnswer, SignOutcome, Buffers, pairBuffers, pairFound}
+use Rattle.lvs_spec.specs.Answers.{words, SignAnswer, SignOutcome, Buffers, pairBuffers, pairFound}
+use Rattle.lvs_spec.specs.Demands.{RoomFor}
 use Rattle.lvs_spec.proofs.Lists.{clash, first-in}
 use Rattle.lvs_spec.proofs.Follow.{allowed-length}
 use Rattle.lvs_spec.proofs.Signing.{pair-allowed}
 use Rattle.lvs_spec.proofs.Temporary.{none-named}
 use Rattle.lvs_names.specs.Rows.{rowFrom}
-use Rattle.lvs_bindings.specs.Slots.{clear, bindingsOf}
+use Rattle.lvs_bindings.specs.Slots.{clear, bindingsOf, Wrote}
 use Rattle.lvs_bindings.proofs.Slots.{none-bound}
 use Rattle.lvs_edges.specs.Nodes.{NodesAt}
-use Rattle.lvs_edges.specs.Sides.{rowFor}
-use Rattle.lvs_walk.specs.Search.{Hit, listed, worth, hits, firstFound, sideOf, Within, written, hitOf, First}
-use Rattle.lvs_walk.specs.Calls.{matchOf, FirstMatch, signFound, FirstPair}
+use Rattle.lvs_edges.specs.Sides.{nameFor, rowFor}
+use Rattle.lvs_walk.specs.Search.{Hit, listed, worth, hits, firstFound, sideOf, Within, written, hitOf, First, mapped}
+use Rattle.lvs_walk.specs.Calls.{matchOf, FirstMatch, pairHit, FirstPair}
 use Rattle.lvs_walk.specs.declared.Goal.the-variants.{Match as AnyMatch, Packet}
 use Rattle.lvs_walk.specs.declared.Found.{Found}
 use Rattle.lvs_walk.specs.declared.Found.the-variants.{Nothing, At}
-use Rattle.lvs_walk.proofs.Retold.{mapped, retold, retold-first, retold-each}
+use Rattle.lvs_walk.proofs.Retold.{retold, retold-first, retold-each}
 use Rattle.lvs_walk.proofs.Words.{written-whole}
 
 -- a walk may begin there
@@ -91,12 +92,9 @@ match-first m name from v depth {before} {after} {r = r} start-is none-is f =
 
 -- ---- a pair
 
-abbrev pairHit : Pair → Hit
-pairHit z = record { packet = z .packet .node; node = z .key .node; bindings = z .key .bindings; path = z .packet .path ++ z .key .path }
-
 module _ (m : Model) where
   signed-hit : (x y : Match) → map (retold pairHit) (signed m x y) ≡ listed m (x .node) (x .path) y
-  unfolding signed listed
+  unfolding signed listed pairPath
   signed-hit x y = go (lists m (x .node) (y .node))
     where
       go : (t : Bool) → map (retold pairHit) (when t (found (record { packet = x; key = y })))
@@ -111,60 +109,74 @@ module _ (m : Model) where
       retold-each pairHit (signTrace m (rowFrom key from)) (worth m key (Packet start from))
       (λ x. retold-each pairHit (signed m x) (listed m (x .node) (x .path)) (signed-hit x) (keyTrace m (rowFrom key from) x)) t
 
--- what a hit of the signing goal says
-module _ (packet key : List ℕ) (after : List ℕ) (s : Buffers) where
-  pair-answer : (r : Found) (p : List ℕ) (o : Option Pair) → hitOf packet key r after p ≡ mapped pairHit o → signFound r ≡ pairFound o s .answer
-  unfolding pairFound
-  pair-answer Nothing p none e = refl
-  pair-answer Nothing p (some z) e = clash (cc)
-  pair-answer (At v k) p none e = clash (cc)
-  pair-answer (At v k) p (some z) e = go (Option·some-injective _ _ e)
-    where
-      go : record { packet = v; node = k; bindings = bindingsOf packet key after; path = p } ≡ pairHit z
-          → signFound (At v k) ≡ SignAnswer.allowed (z .packet .node) (z .key .node)
-      go h = λ i. SignAnswer.allowed (ap (λ (y : Hit). y .packet) h i) (ap (λ (y : Hit). y .node) h i)
-
-  -- the path is the pair's own
-  pair-path : (r : Found) (p path-after : List ℕ) (o : Option Pair) → hitOf packet key r after p ≡ mapped pairHit o
-      → ((z : Pair) → o ≡ some z → length (pairPath z) ≤ length (s .path)) → path-after ≡ written 0 p (s .path) → (r ≡ Nothing → path-after ≡ s .path)
-      → path-after ≡ pairFound o s .buffers .path
-  unfolding pairFound pairBuffers pairPath
-  pair-path Nothing p path-after none e room is kept = kept refl
-  pair-path Nothing p path-after (some z) e room is kept = clash (cc)
-  pair-path (At v k) p path-after none e room is kept = clash (cc)
-  pair-path (At v k) p path-after (some z) e room is kept =
-      let h : record { packet = v; node = k; bindings = bindingsOf packet key after; path = p } ≡ pairHit z = Option·some-injective _ _ e in
-      is ∙ ap (λ (y : Hit). written 0 (y .path) (s .path)) h ∙ written-whole (pairPath z) (s .path) (room z refl)
-
 pub pair-first : (m : Model) (packet key : List ℕ) (from kfrom v : ℕ) (path : List ℕ) {before after path-after : List ℕ} {r : Found} → v ≡ m .start
     → before ≡ clear → First packet key
     (hits m key (Packet v kfrom) (rowFor packet key (sideOf (Packet v kfrom)) from)
     (record { node = v; bindings = bindingsOf packet key before; path = [] }))
     0 before path r after path-after
-    → FirstPair m (rowFrom packet from) (rowFrom key kfrom) path r path-after
+    → FirstPair m (rowFrom packet from) (rowFrom key kfrom) packet key path r after path-after
 unfolding hits sideOf rowFor nameFor pairs pairTrace packetTrace begin firstFound
-pair-first m packet key from kfrom v path {before} {after} {path-after} {r} start-is none-is f =
+pair-first m packet key from kfrom v path start-is none-is f =
     let ps = rowFrom packet from in
-    let ks = rowFrom key kfrom in
-    let t : List (Event Pair) = pairTrace m ps ks in
-    let same : hitOf packet key r after (f .crossed) ≡ mapped pairHit (first (answers t)) =
-    (rw (start-is, none-bound packet key none-is) at (f .answer)) ∙
-    sym (ap firstFound (pair-hits m key (m .start) kfrom (packetTrace m ps))) ∙ retold-first pairHit t in
-    let fits : length ps + length ks ≤ length path → (z : Pair) → first (answers t) ≡ some z → length (pairPath z) ≤ length path =
-    λ room z e. omega (arith, room, allowed-length m ps ks (pair-allowed m ps ks (first-in _ e))) in
+    let t : List (Event Pair) = pairTrace m ps (rowFrom key kfrom) in
     record {
-      answer = pair-answer packet key after (record { path = path }) r (f .crossed) (first (answers t)) same;
-      path-is = λ room.
-          pair-path packet key after (record { path = path }) r (f .crossed) path-after (first (answers t)) same (fits room) (f .path-is) (f .path-kept);
+      crossed = f .crossed;
+      answer = (rw (start-is, none-bound packet key none-is) at (f .answer)) ∙
+          sym (ap firstFound (pair-hits m key (m .start) kfrom (packetTrace m ps))) ∙ retold-first pairHit t;
+      path-is = f .path-is;
+      path-kept = f .path-kept;
+      room = f .room;
     }
 
 -- ---- for callers
 
-module _ {m : Model} {ps ks : List Component} {path after : List ℕ} {r : Found} (f : FirstPair m ps ks path r after) where
-  -- the outcome of a signing call with room for the path
-  pub pair-outcome : length ps + length ks ≤ length path
-      → _≡_ {A = SignOutcome} (record { answer = signFound r; buffers = record { path = after } }) (pairFound (first (pairs m ps ks)) (record { path = path }))
-  pair-outcome room = λ i. record { answer = f .answer i; buffers = record { path = f .path-is room i } }
+module _ {m : Model} {ps ks : List Component} {packet key path : List ℕ} {r : Found} {slots after : List ℕ}
+    (f : FirstPair m ps ks packet key path r slots after) where
+  said : {q : Found} → r ≡ q → hitOf packet key q slots (f .crossed) ≡ mapped pairHit (first (pairs m ps ks))
+  said e = ap (λ q. hitOf packet key q slots (f .crossed)) (sym e) ∙ f .answer
+
+  pub no-pair : r ≡ Nothing → first (pairs m ps ks) ≡ none
+  no-pair e = go (first (pairs m ps ks)) (said e)
+    where
+      go : (o : Option Pair) → none ≡ mapped pairHit o → o ≡ none
+      go none h = refl
+      go (some z) h = clash (cc)
+
+  -- the pair that was found, in the slots and on the path
+  pub some-pair : {v k : ℕ} → r ≡ At v k
+      → (z : Pair) × (first (pairs m ps ks) ≡ some z)
+      × (record { packet = v; node = k; bindings = bindingsOf packet key slots; path = f .crossed } ≡ pairHit z)
+  some-pair {v} {k} e = go (first (pairs m ps ks)) refl (said e)
+    where
+      go : (o : Option Pair) → first (pairs m ps ks) ≡ o → hitOf packet key (At v k) slots (f .crossed) ≡ mapped pairHit o
+          → (z : Pair) × (first (pairs m ps ks) ≡ some z)
+          × (record { packet = v; node = k; bindings = bindingsOf packet key slots; path = f .crossed } ≡ pairHit z)
+      go none p h = clash (cc)
+      go (some z) p h = (z, p, Option·some-injective _ _ h)
+
+-- the outcome of a signing call: without a pair, and with one and room for its words
+module _ {m : Model} {ps ks : List Component} {packet key : List ℕ} {s : Buffers} {r : Found} {slots after : List ℕ}
+    (f : FirstPair m ps ks packet key (s .path) r slots after) where
+  pub none-outcome : r ≡ Nothing
+      → record { answer = SignAnswer.notAllowed; buffers = record { words = s .words; path = after } } ≡ pairFound (first (pairs m ps ks)) s
+  unfolding pairFound
+  none-outcome e = rw (no-pair f e, f .path-kept e)
+
+  pub some-outcome : {v k n : ℕ} {w : List ℕ} → r ≡ At v k → RoomFor ps ks s → Wrote packet slots (s .words) n w
+      → record { answer = SignAnswer.allowed v k; buffers = record { words = w; path = after } } ≡ pairFound (first (pairs m ps ks)) s
+  unfolding pairFound pairBuffers
+  some-outcome {w = w} e room wrote =
+      let (z, p, h) = some-pair f e in
+      let long = allowed-length m ps ks (pair-allowed m ps ks (first-in _ p)) in
+      let bindings-are = ap (λ (y : Hit). words (y .bindings) ++ drop bindingWords (s .words)) h in
+      let path-is = ap (λ (y : Hit). written 0 (y .path) (s .path)) h in
+      let words-left : w ≡ words (z .key .bindings) ++ drop bindingWords (s .words) = wrote .words-are key ∙ bindings-are in
+      let path-left : after ≡ pairPath z ++ drop (length (pairPath z)) (s .path) =
+      f .path-is ∙ path-is ∙ written-whole (pairPath z) (s .path) (omega (arith, long, room .path)) in
+      rw p (λ i. record {
+        answer = SignAnswer.allowed (ap (λ (y : Hit). y .packet) h i) (ap (λ (y : Hit). y .node) h i);
+        buffers = record { words = words-left i; path = path-left i };
+      })
 
 module _ {m : Model} {cs : List Component} {name slots : List ℕ} {r : Found} (f : FirstMatch m cs name r slots) where
   pub found-none : r ≡ Nothing → first (packetMatches m cs) ≡ none

@@ -10,7 +10,7 @@ use Rattle.lvs_spec.specs.Walk.{Binding, Match, Event, looked, found, continue,
 use Rattle.lvs_spec.proofs.Lists.{first-append, each-append, each-each}
 use Rattle.lvs_spec.proofs.Trace.{each-same}
 use Rattle.lvs_bindings.specs.Slots.{Room, bindingsOf}
-use Rattle.lvs_edges.specs.Sides.{rowFor}
+use Rattle.lvs_edges.specs.Sides.{nameFor, rowFor}
 use Rattle.lvs_walk.specs.Search.{Hit, listed, worth, hits, firstFound, sideOf, foundIf, Started, written, hitOf, First}
 use Rattle.lvs_walk.specs.declared.Goal.{Goal}
 use Rattle.lvs_walk.specs.declared.Goal.the-variants.{Match as AnyMatch, Packet, Key}

@@ -1,22 +1,17 @@
 -- A trace that says the same in another way. Assumes nothing.
 use mathlib.Core.Path.{_≡_, refl, ap, _∙_}
 use mathlib.Core.List.{List, [], _∷_, _++_, map}
-use mathlib.Core.Option.{Option, none, some}
 use Rattle.tlv.specs.Lists.{each}
 use Rattle.lvs_spec.specs.Walk.{Event, looked, found, continue}
-use Rattle.lvs_walk.specs.Search.{firstFound}
+use Rattle.lvs_walk.specs.Search.{firstFound, mapped}
 
 module _ {A B : Type 0} (f : A → B) where
-  abbrev pub mapped : Option A → Option B
-  mapped none = none
-  mapped (some a) = some (f a)
-
   abbrev pub retold : Event A → Event B
   retold looked = looked
   retold (found a) = found (f a)
 
   -- its first answer says the same
-  pub retold-first : (t : List (Event A)) → firstFound (map retold t) ≡ mapped (firstFound t)
+  pub retold-first : (t : List (Event A)) → firstFound (map retold t) ≡ mapped f (firstFound t)
   unfolding firstFound
   retold-first [] = refl
   retold-first (looked ∷ t) = retold-first t

@@ -22,11 +22,11 @@ use Rattle.lvs_edges.specs.declared.Crossing.{Crossing}
 use Rattle.lvs_edges.specs.declared.Crossing.the-variants.{Shut, Open}
 use Rattle.lvs_edges.proofs.Crossed.{crossed-step}
 use Rattle.lvs_edges.proofs.Rows.{Component}
-use Rattle.lvs_walk.specs.Search.{Hit, hits, firstFound, sideOf, written, hitOf, First}
+use Rattle.lvs_walk.specs.Search.{Hit, hits, firstFound, sideOf, written, hitOf, First, mapped}
 use Rattle.lvs_walk.specs.declared.Goal.{Goal}
 use Rattle.lvs_walk.specs.declared.Found.{Found}
 use Rattle.lvs_walk.specs.declared.Found.the-variants.{Nothing, At}
-use Rattle.lvs_walk.proofs.Retold.{mapped, retold-first}
+use Rattle.lvs_walk.proofs.Retold.{retold-first}
 use Rattle.lvs_walk.proofs.Ahead.{hitAfter, hits-after}
 use Rattle.lvs_walk.proofs.Hits.{found-append, looked-on, found-nothing, tried, hits-step}
 

@@ -1,15 +1,14 @@
 -- What the two searches promise their callers, in lvs_spec's words.
-use Prim.Native.Nat.{ℕ, _+_, _≤_}
+use Prim.Native.Nat.{ℕ}
 use mathlib.Core.Path.{_≡_}
 use mathlib.Core.List.{List, []}
 use mathlib.Core.Option.{Option, none, some}
-use lib.ListN.{length}
 use Rattle.tlv.specs.Lists.{first}
 use Rattle.lvs_spec.specs.Model.{Model}
 use Rattle.lvs_spec.specs.Names.{Component}
-use Rattle.lvs_spec.specs.Walk.{Match, packetMatches, pairs}
-use Rattle.lvs_spec.specs.Answers.{SignAnswer, pairFound}
+use Rattle.lvs_spec.specs.Walk.{Match, Pair, packetMatches, pairPath, pairs}
 use Rattle.lvs_bindings.specs.Slots.{Room, bindingsOf}
+use Rattle.lvs_walk.specs.Search.{Hit, mapped, written, hitOf}
 use Rattle.lvs_walk.specs.declared.Found.{Found}
 use Rattle.lvs_walk.specs.declared.Found.the-variants.{Nothing, At}
 
@@ -25,12 +24,14 @@ pub record FirstMatch (m : Model) (cs : List Component) (name : List ℕ) (r : F
   pub ends : (v k : ℕ) → r ≡ At v k → v ≡ k
   pub room : Room slots
 
--- the answer of the signing call that an answer stands for
-abbrev pub signFound : Found → SignAnswer
-signFound Nothing = SignAnswer.notAllowed
-signFound (At p k) = SignAnswer.allowed p k
+-- a pair as a hit: the key's walk ended with the bindings of both
+abbrev pub pairHit : Pair → Hit
+pairHit z = record { packet = z .packet .node; node = z .key .node; bindings = z .key .bindings; path = pairPath z }
 
--- the outcome of the first pair: its nodes, and its path where there is room
-pub record FirstPair (m : Model) (ps ks : List Component) (path : List ℕ) (r : Found) (after : List ℕ) : Type 0 where
-  pub answer : signFound r ≡ pairFound (first (pairs m ps ks)) (record { path = path }) .answer
-  pub path-is : length ps + length ks ≤ length path → after ≡ pairFound (first (pairs m ps ks)) (record { path = path }) .buffers .path
+-- the first pair, with its bindings in the slots and its path written, as far as there are words for it
+pub record FirstPair (m : Model) (ps ks : List Component) (packet key path : List ℕ) (r : Found) (slots after : List ℕ) : Type 0 where
+  pub crossed : List ℕ
+  pub answer : hitOf packet key r slots crossed ≡ mapped pairHit (first (pairs m ps ks))
+  pub path-is : after ≡ written 0 crossed path
+  pub path-kept : r ≡ Nothing → after ≡ path
+  pub room : Room slots

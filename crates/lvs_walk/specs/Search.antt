@@ -47,6 +47,11 @@ hits m key goal cs x = each (continue (worth m key goal)) (trace m cs x)
 unfoldable pub firstFound : {A : Type 0} → List (Event A) → Option A
 firstFound t = first (answers t)
 
+-- what f makes of a value that is there
+abbrev pub mapped : {A B : Type 0} → (A → B) → Option A → Option B
+mapped f none = none
+mapped f (some a) = some (f a)
+
 -- the name that a goal walks
 unfoldable pub sideOf : Goal → Side
 sideOf AnyMatch = side.Packet

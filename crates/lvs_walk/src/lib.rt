@@ -200,7 +200,8 @@ pub fn find_match(
     )
 }
 
-// The first pair of a packet match and a key match that may sign it; its path is written, as far as there is room.
+// The first pair of a packet match and a key match that may sign it; its bindings are left in the slots, and its path is written, as far as there
+// is room. Where there is none, what the slots hold is left open.
 pub fn find_pair<'a>(
     model: &[u8],
     places: &[u32; PLACE_WORDS],
@@ -208,12 +209,13 @@ pub fn find_pair<'a>(
     packet_from: usize,
     key: &'a [u8],
     key_from: usize,
+    slots: &mut [u32; SLOT_WORDS],
     path: &mut [u16],
 ) -> Found
     requires { ⌜ NodesAt (now model) (now places) ⌝ }
-    requires { ⌜ (length (now packet) ≤ maxNameBytes) × (length (now key) ≤ maxNameBytes) ⌝ }
+    requires { ⌜ (length (now packet) ≤ maxNameBytes) × (length (now key) ≤ maxNameBytes) × (now slots ≡ clear) ⌝ }
     ensures { λ r. ⌜ FirstPair (modelOf (now (model .entry))) (rowFrom (now (packet .entry)) «packet_from») (rowFrom (now (key .entry)) «key_from»)
-        (now (path .entry)) r (now (path .exit)) ⌝ }
+        (now (packet .entry)) (now (key .entry)) (now (path .entry)) r (now (slots .exit)) (now (path .exit)) ⌝ }
 {
     let start = tlv::number_in(model, NODE_ID);
     let named = tlv::number_in(model, NAMED_PATTERN_CNT);
@@ -221,7 +223,6 @@ pub fn find_pair<'a>(
         start,
         from: key_from,
     };
-    let mut slots = [0u32; SLOT_WORDS];
     walk(
         model,
         places,
@@ -232,7 +233,7 @@ pub fn find_pair<'a>(
         start,
         packet_from,
         0,
-        &mut slots,
+        slots,
         path,
     )
 }

@@ -18,7 +18,7 @@ unfolding modelOf nameFor sideOf
 walk-requires c κs =
     let n = c .before .before in
     let s = began n in (
-      clear-within (s .pre .0) (n .number-in2 .ensures) (s .pre .1 .0) (s .pre .1 .1) refl,
+      clear-within (s .pre .0) (n .number-in2 .ensures) (s .pre .1 .0) (s .pre .1 .1) (s .pre .1 .2),
       (n .before .number-in .ensures, omega (arith, s .pre .1 .0, s .pre .1 .1)),
     )
 
@@ -29,7 +29,7 @@ returns c =
     let n = w .before .before .before in
     let s = began n in
     pair-first (modelOf (s .args .model .now)) (s .args .packet .now) (s .args .key .now) (s .args .packet-from) (s .args .key-from) _
-    (s .args .path .now) (n .before .number-in .ensures) refl (w .walk .ensures)
+    (s .args .path .now) (n .before .number-in .ensures) (s .pre .1 .2) (w .walk .ensures)
 
 pub find-pair-spec : {M : Type 1} → statement M
 find-pair-spec =
