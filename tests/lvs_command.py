@@ -4,8 +4,8 @@
 usage: lvs_command.py
 
 Every subcommand, every exit status, every refusal and every error text; the examples in README and in the help texts; what is said of
-malformed models, and of paths; texts of models, shown and built again; and builds, in a copy of tools/ with another rt. Models are made
-with tests/cases/build.py.
+malformed models, of bindings and of paths; texts of models, shown and built again; and builds, in a copy of tools/ with another rt. Models
+are made with tests/cases/build.py.
 """
 import collections
 import concurrent.futures
@@ -47,7 +47,9 @@ REQUESTS = (ROOT / "example/requests.txt").read_text()
 ARTICLE = "/ndn/blog/100001/post/2022/1"
 AUTHOR = "/ndn/blog/author/100001/KEY/1/000001/1"
 ROOT_KEY = "/ndn/blog/KEY/1/self/1"
+ADMIN = "/ndn/blog/admin/000001/KEY/1/root/1"
 ALLOWED = "allowed: packet at node 28, key at node 18\n"
+ARTICLE_BINDINGS = "  tag 2 = 100001, from the packet\n  tag 3 = 2022, from the packet\n  tag 4 = 1, from the packet\n"
 
 # rule names, symbols, every kind of term, optional elements at several depths, and a node that nothing leads to
 SKIPPED = element(0x80, b"abc")
@@ -71,6 +73,12 @@ TEMPORARY = tree(
     patterns=1,
 ) + symbol(1, "user") + symbol(2, "_role") + symbol(3, "part") + symbol(4, "_")
 
+# the key meets Tag 1 of the packet again, and binds 3, which it meets twice, 4 and 5; 2 and 4 share a symbol, 5 has none, 6 is temporary
+ORIGINS = tree(
+    ["data", (1,), (2,), (6,), [11]],
+    ["key", (1,), (3,), (3,), (4,), (5,), (6,), ()],
+    patterns=5,
+) + symbol(1, "user") + symbol(2, "part") + symbol(3, "issuer") + symbol(4, "part") + symbol(6, "_nonce")
 ITSELF = model(node(0, signer(0)))  # the empty name is signed by itself
 TWICE = tree([(1,), (1, must_be("x")), (2,)])  # the same component twice, and only x
 ROOMLESS = model(node(0, value_edge(1, "a")), node(1, parent(0)))  # no signer, which takes three bytes
@@ -117,6 +125,7 @@ FILES = {
     "none-named.lvs": with_count(B, 0),
     "shared.lvs": TUTORIAL_SHARED,
     "temporary.lvs": TEMPORARY,
+    "origins.lvs": ORIGINS,
     "itself.lvs": ITSELF,
     "twice.lvs": TWICE,
     "room.lvs": padded(ROOMLESS, 32765),
@@ -160,7 +169,7 @@ REFUSED = {
     24: "refused 24: the key name is longer than 1,024 bytes",
     25: f"refused 25: the key name is {NOT_A_NAME}",
     26: "refused 26: the key name has more than 32 components",
-    27: "refused 27: the buffer for the bindings has fewer than 256 words",
+    27: "refused 27: the buffer for the bindings has fewer than 384 words",
     30: "refused 30: the two lists are no description, or too short for the model's",
     31: "refused 31: the buffer for the model is too short",
     32: "refused 32 at entry 2: this entry of the list is no key name: it is malformed, longer than 1,024 bytes, or has more than 32 components",
@@ -236,39 +245,38 @@ def bad_names():
 
 
 def match_runs():
-    bound = "  tag 2 = 100001\n  tag 3 = 2022\n  tag 4 = 1\n"
-    yield Run(["match", "example.lvs", ARTICLE], 0, "match: node 28, 3 tags bound\n" + bound)
-    yield Run(["match", "-", "ndn:" + ARTICLE + "/"], 0, "match: node 28, 3 tags bound\n" + bound, given=EXAMPLE)
-    yield Run(["match", "example.lvs", "0x" + names.name(ARTICLE).hex().upper()], 0, "match: node 28, 3 tags bound\n" + bound)
+    article = "match: node 28, 3 tags bound\n" + ARTICLE_BINDINGS
+    yield Run(["match", "example.lvs", ARTICLE], 0, article)
+    yield Run(["match", "-", "ndn:" + ARTICLE + "/"], 0, article, given=EXAMPLE)
+    yield Run(["match", "example.lvs", "0x" + names.name(ARTICLE).hex().upper()], 0, article)
     yield Run(["match", "example.lvs", "/"], 0, "match: node 0, 0 tags bound\n")
     yield Run(["match", "example.lvs", "/ndn/blog"], 0, "match: node 2, 0 tags bound\n")
     yield Run(["match", "example.lvs", "/ndn/blog/1000/post/202/1"], 1, "no match\n")
     yield Run(["match", "named.lvs", "/me/a"], 1, "no match\n")  # of a Constraint without options
-    yield Run(["match", "named.lvs", "/me"], 0, "match: node 2, 1 tag bound\n  user = me\n")
-    yield Run(["match", "named.lvs", "/v=3/x"], 0, "match: node 3 (#end), 1 tag bound\n  part (tag 2) = x\n")
-    yield Run(["match", "named.lvs", "/54=%03/x"], 0, "match: node 3 (#end), 1 tag bound\n  part (tag 2) = x\n")
+    yield Run(["match", "named.lvs", "/me"], 0, "match: node 2, 1 tag bound\n  user = me, from the packet\n")
+    yield Run(["match", "named.lvs", "/v=3/x"], 0, "match: node 3 (#end), 1 tag bound\n  part (tag 2) = x, from the packet\n")
+    yield Run(["match", "named.lvs", "/54=%03/x"], 0, "match: node 3 (#end), 1 tag bound\n  part (tag 2) = x, from the packet\n")
     yield Run(["match", "named.lvs", "/v=3"], 0, "match: node 1 (#time, #v), 0 tags bound\n")
     digest = "sha256digest=" + "0a" * 32
     parts = ["v=3", "54=%00%03", "...", "....", "%00%2F%C3%A9", digest, "x" * 900]
-    texts = "".join(f"  tag {i} = {part}\n" for i, part in enumerate(parts, 1))
-    yield Run(["match", "any.lvs", "/" + "/".join(parts)], 0, "match: node 7, 7 tags bound\n" + texts)
-    yield Run(["match", "any.lvs", "/9=a/1=%0A/é/a%62/32=.../a/b"], 0, "match: node 7, 7 tags bound\n"
-              "  tag 1 = 9=a\n  tag 2 = 1=%0A\n  tag 3 = %C3%A9\n  tag 4 = ab\n  tag 5 = 32=...\n  tag 6 = a\n  tag 7 = b\n")
+    for uri, texts in ("/" + "/".join(parts), parts), ("/9=a/1=%0A/é/a%62/32=.../a/b", ["9=a", "1=%0A", "%C3%A9", "ab", "32=...", "a", "b"]):
+        lines = "".join(f"  tag {i} = {text}, from the packet\n" for i, text in enumerate(texts, 1))
+        yield Run(["match", "any.lvs", uri], 0, "match: node 7, 7 tags bound\n" + lines)
     # temporary patterns are not shown as bound
     yield Run(["match", "none-named.lvs", "/a"], 0, "match: node 1, 0 tags bound\n")
-    yield Run(["match", "shared.lvs", AUTHOR], 0, "match: node 18, 1 tag bound\n  tag 2 = 100001\n")
-    yield Run(["match", "temporary.lvs", "/a/b/a"], 0, "match: node 3, 1 tag bound\n  user = a\n")
+    yield Run(["match", "shared.lvs", AUTHOR], 0, "match: node 18, 1 tag bound\n  tag 2 = 100001, from the packet\n")
+    yield Run(["match", "temporary.lvs", "/a/b/a"], 0, "match: node 3, 1 tag bound\n  user = a, from the packet\n")
     yield Run(["match", "temporary.lvs", "/a/b/b"], 1, "no match\n")  # the option that names Tag 2 does not hold
-    yield Run(["match", "temporary.lvs", "/x/y"], 0, "match: node 2, 1 tag bound\n  user = x\n")
+    yield Run(["match", "temporary.lvs", "/x/y"], 0, "match: node 2, 1 tag bound\n  user = x, from the packet\n")
     yield Run(["match", "--json", "none-named.lvs", "/a"], 0, '{"answer": "match", "node": 1, "rules": [], "bound": 0, "bindings": []}\n')
     yield Run(["match", "--json", "temporary.lvs", "/a/b/a"], 0, '{"answer": "match", "node": 3, "rules": [], "bound": 1, "bindings": '
-              '[{"tag": 1, "symbol": "user", "component": "a", "start": 2, "length": 3}]}\n')
+              '[{"tag": 1, "symbol": "user", "component": "a", "origin": "packet", "start": 2, "length": 3}]}\n')
     for text, number in bad_names():
         yield Run(["match", "example.lvs", text], 2, REFUSED[number] + "\n")
         yield Run(["match", "r7.lvs", text], 2, REFUSED[7] + "\n")
     yield Run(["match", "r1-far.lvs", "/"], 2, REFUSED[1] + "\n")
     yield Run(["match", "--json", "named.lvs", "/v=3/x"], 0, '{"answer": "match", "node": 3, "rules": ["#end"], "bound": 1, "bindings": '
-              '[{"tag": 2, "symbol": "part", "component": "x", "start": 5, "length": 3}]}\n')
+              '[{"tag": 2, "symbol": "part", "component": "x", "origin": "packet", "start": 5, "length": 3}]}\n')
     yield Run(["match", "--json", "example.lvs", "/"], 0, '{"answer": "match", "node": 0, "rules": [], "bound": 0, "bindings": []}\n')
     yield Run(["match", "--json", "example.lvs", "/a"], 1, '{"answer": "no match"}\n')
     meaning = REFUSED[23].partition(": ")[2]
@@ -276,40 +284,42 @@ def match_runs():
 
 
 def sign_runs():
-    yield Run(["sign", "example.lvs", ARTICLE, AUTHOR], 0, ALLOWED)
-    yield Run(["sign", "-", ARTICLE, AUTHOR], 0, ALLOWED, given=EXAMPLE)
+    yield Run(["sign", "example.lvs", ARTICLE, AUTHOR], 0, ALLOWED + ARTICLE_BINDINGS)
+    yield Run(["sign", "-", ARTICLE, AUTHOR], 0, ALLOWED + ARTICLE_BINDINGS, given=EXAMPLE)
     yield Run(["sign", "example.lvs", ARTICLE, ROOT_KEY], 1, "not allowed\n")
-    yield Run(["sign", "named.lvs", "/v=3/x", "/v=3"], 0, "allowed: packet at node 3 (#end), key at node 1 (#time, #v)\n")
-    yield Run(["sign", "named.lvs", "/v=3/x", "/me"], 0, "allowed: packet at node 3 (#end), key at node 2\n")
+    part = "  part (tag 2) = x, from the packet\n"
+    yield Run(["sign", "named.lvs", "/v=3/x", "/v=3"], 0, f"allowed: packet at node 3 (#end), key at node 1 (#time, #v)\n{part}")
+    yield Run(["sign", "named.lvs", "/v=3/x", "/me"], 0, f"allowed: packet at node 3 (#end), key at node 2\n  user = me, from the key\n{part}")
     yield Run(["sign", "b.lvs", "/a", "/b"], 1, "not allowed\n")
     yield Run(["sign", "none-named.lvs", "/a", "/b"], 0, "allowed: packet at node 1, key at node 1\n")
-    admin = "/ndn/blog/admin/000001/KEY/1/root/1"
-    yield Run(["sign", "shared.lvs", AUTHOR, admin], 0, "allowed: packet at node 18, key at node 12\n")
+    both = "  tag 1 = 000001, from the key\n  tag 2 = 100001, from the packet\n"
+    yield Run(["sign", "shared.lvs", AUTHOR, ADMIN], 0, "allowed: packet at node 18, key at node 12\n" + both)
     for text, number in bad_names():
         yield Run(["sign", "example.lvs", text, ROOT_KEY], 2, REFUSED[number] + "\n")
         yield Run(["sign", "example.lvs", ARTICLE, text], 2, REFUSED[number + 3] + "\n")
     yield Run(["sign", "example.lvs", "0x", "/" + "x" * 9000], 2, REFUSED[22] + "\n")
     yield Run(["sign", "r1-far.lvs", "0x", "0x"], 2, REFUSED[1] + "\n")
     yield Run(["sign", "r11.lvs", "/a", "/b"], 2, REFUSED[11] + "\n")
-    yield Run(["sign", "--json", "named.lvs", "/v=3/x", "/me"], 0, '{"answer": "allowed", "packet_node": 3, "key_node": 2, '
-              '"packet_rules": ["#end"], "key_rules": []}\n')
+    yield Run(["sign", "--json", "named.lvs", "/v=3/x", "/v=3"], 0, '{"answer": "allowed", "packet_node": 3, "key_node": 1, '
+              '"packet_rules": ["#end"], "key_rules": ["#time", "#v"], "bindings": '
+              '[{"tag": 2, "symbol": "part", "component": "x", "origin": "packet", "start": 5, "length": 3}]}\n')
     yield Run(["sign", "--json", "example.lvs", ARTICLE, ROOT_KEY], 1, '{"answer": "not allowed"}\n')
 
 
-def pair_line(number, answer, packet, key):
-    return f"{number:>4}  {answer:<44}  {packet}  by  {key}\n"
+def pair_line(number, answer, packet, key, *more):
+    return "  ".join([f"{number:>4}", f"{answer:<44}", packet, "by", key, *more]) + "\n"
 
 
 def batch_runs():
     words = ["sign", "example.lvs", "-"]
-    admin, other = "/ndn/blog/admin/000001/KEY/1/root/1", "/ndn/blog/author/100002/KEY/1/000001/1"
+    other = "/ndn/blog/author/100002/KEY/1/000001/1"
     yield Run(words, 1, f"""\
-   3  allowed: packet at node 12, key at node 6     {admin}  by  {ROOT_KEY}
+   3  allowed: packet at node 12, key at node 6     {ADMIN}  by  {ROOT_KEY}
    5  not allowed                                   /ndn/blog/admin/000001/key/1/root/1  by  {ROOT_KEY}
-   7  not allowed                                   /ndn/blog/admin/000002/KEY/1/root/1  by  {admin}
-   9  allowed: packet at node 18, key at node 12    {AUTHOR}  by  {admin}
-  10  not allowed                                   /ndn/blog/author/1000/KEY/1/000001/1  by  {admin}
-  12  allowed: packet at node 24, key at node 12    /ndn/blog/reader/200001/KEY/1/000001/1  by  {admin}
+   7  not allowed                                   /ndn/blog/admin/000002/KEY/1/root/1  by  {ADMIN}
+   9  allowed: packet at node 18, key at node 12    {AUTHOR}  by  {ADMIN}
+  10  not allowed                                   /ndn/blog/author/1000/KEY/1/000001/1  by  {ADMIN}
+  12  allowed: packet at node 24, key at node 12    /ndn/blog/reader/200001/KEY/1/000001/1  by  {ADMIN}
   14  allowed: packet at node 28, key at node 18    {ARTICLE}  by  {AUTHOR}
   15  not allowed                                   {ARTICLE}  by  {other}
   16  not allowed                                   /ndn/blog/100001/post/202/1  by  {AUTHOR}
@@ -333,7 +343,8 @@ lvs: line 5: 5 words, not a packet name and a key name
 lvs: line 8: packet name '0x7', character 4: {digit}
 """, given.encode())
     yield Run([*words, "--json"], 3, f"""\
-{{"line": 1, "packet": "{ARTICLE}", "key": "{AUTHOR}", "answer": "allowed", "packet_node": 28, "key_node": 18, "packet_rules": [], "key_rules": []}}
+{{"line": 1, "packet": "{ARTICLE}", "key": "{AUTHOR}", "answer": "allowed", "packet_node": 28, "key_node": 18, "packet_rules": [], "key_rules": [], \
+"bindings": {json.dumps(binding_objects(*ARTICLE_BOUND))}}}
 {{"line": 2, "packet": "{ARTICLE}", "key": "{ROOT_KEY}", "answer": "not allowed"}}
 {{"line": 3, "answer": "error", "error": "key name '/%', character 2: {percent}"}}
 {{"line": 4, "answer": "error", "error": "1 word, not a packet name and a key name"}}
@@ -355,6 +366,73 @@ lvs: line 8: packet name '0x7', character 4: {digit}
     yield Run(["sign", "any.lvs", "-"], 1, pair_line(1, "not allowed", "/%1B[2J%FF/é", "/a"), given=b"/\x1b[2J\xff/\xc3\xa9 /a")
 
 
+# bindings
+
+BINDING = "tag", "symbol", "component", "origin", "start", "length"
+ARTICLE_BOUND = (2, None, "100001", "packet", 13, 8), (3, None, "2022", "packet", 27, 6), (4, None, "1", "packet", 33, 3)
+
+
+def binding_objects(*bindings):
+    return [dict(zip(BINDING, one, strict=True)) for one in bindings]
+
+
+def binding_runs():
+    allowed = "allowed: packet at node 4, key at node 11"
+    packet, key = "/data/a/v=3/x", "/key/a/%2F/%2F/.../9=%00/y"
+    lines = """\
+  user = a, from the packet
+  part (tag 2) = v=3, from the packet
+  issuer = %2F, from the key
+  part (tag 4) = ..., from the key
+  tag 5 = 9=%00, from the key
+"""
+    yield Run(["sign", "origins.lvs", packet, key], 0, f"{allowed}\n{lines}")
+    yield Run(["sign", "--bindings", "origins.lvs", packet, key], 0, f"{allowed}\n{lines}")
+    yield Run(["match", "origins.lvs", packet], 0, "match: node 4, 2 tags bound\n" + "".join(lines.splitlines(True)[:2]))
+    yield Run(["match", "origins.lvs", key], 0, "match: node 11, 4 tags bound\n" + """\
+  user = a, from the packet
+  issuer = %2F, from the packet
+  part (tag 4) = ..., from the packet
+  tag 5 = 9=%00, from the packet
+""")
+    # starts count in the name of origin
+    bound = [(1, "user", "a", "packet", 8, 3), (2, "part", "v=3", "packet", 11, 3), (3, "issuer", "%2F", "key", 10, 3)]
+    bound += [(4, "part", "...", "key", 16, 2), (5, None, "9=%00", "key", 18, 3)]
+    of = {"answer": "allowed", "packet_node": 4, "key_node": 11, "packet_rules": [], "key_rules": [], "bindings": binding_objects(*bound)}
+    yield Run(["sign", "--json", "origins.lvs", packet, key], 0, json.dumps(of) + "\n")
+    yield Run(["sign", "--json", "--bindings", "origins.lvs", packet, key], 0, json.dumps(of) + "\n")
+    # of many pairs, with and without them
+    compact = "bindings user = a (packet), part (tag 2) = v=3 (packet), issuer = %2F (key), part (tag 4) = ... (key), tag 5 = 9=%00 (key)"
+    given, path = f"{packet} {key}\n{key} {packet}\n{packet} 0x\n".encode(), "path 0,0,0,0,1,0,0,0,0,0,0"
+    others = pair_line(2, "not allowed", key, packet) + pair_line(3, REFUSED[25], packet, "0x")
+    for words, more in ([], []), (["--path"], [path]), (["--bindings"], [compact]), (["--path", "--bindings"], [compact, path]):
+        yield Run(["sign", *words, "origins.lvs", "-"], 2, pair_line(1, allowed, packet, key, *more) + others, given=given)
+    of = json.dumps({"line": 1, "packet": packet, "key": key, **of}) + "\n"
+    for words in [], ["--bindings"]:
+        yield Run(["sign", "--json", *words, "origins.lvs", "-"], 0, of, given=given.splitlines()[0])
+    # a component that is long, or that a terminal would take as a command
+    long = "x" * 253
+    text = f"allowed: packet at node 1, key at node 1\n  tag 1 = {long}, from the packet\n"
+    yield Run(["sign", "b.lvs", f"/{long}", f"/{long}"], 0, text)
+    of = {"answer": "allowed", "packet_node": 1, "key_node": 1, "packet_rules": [], "key_rules": []}
+    of["bindings"] = binding_objects((1, None, long, "packet", 4, 257))
+    yield Run(["sign", "--json", "b.lvs", f"/{long}", f"/{long}"], 0, json.dumps(of) + "\n")
+    given, escaped = b"/\x1b[2J,\xff /%1b%5B2J%2C%fF", "%1B%5B2J%2C%FF"
+    line = pair_line(1, "allowed: packet at node 1, key at node 1", "/%1B[2J,%FF", "/%1b%5B2J%2C%fF", f"bindings tag 1 = {escaped} (packet)")
+    yield Run(["sign", "--bindings", "b.lvs", "-"], 0, line, given=given)
+    # no tag is bound
+    for file, pair, nodes in ("itself.lvs", ("/", "/"), (0, 0)), ("none-named.lvs", ("/a", "/b"), (1, 1)):
+        allowed = "allowed: packet at node {}, key at node {}".format(*nodes)
+        yield Run(["sign", "--bindings", file, *pair], 0, allowed + "\n")
+        yield Run(["sign", "--bindings", file, "-"], 0, pair_line(1, allowed, *pair, "bindings none"), given=" ".join(pair).encode())
+        of = {"answer": "allowed", "packet_node": nodes[0], "key_node": nodes[1], "packet_rules": [], "key_rules": [], "bindings": []}
+        yield Run(["sign", "--json", file, *pair], 0, json.dumps(of) + "\n")
+    both = pair_line(1, "allowed: packet at node 0, key at node 0", "/", "/", "bindings none", "path none")
+    yield Run(["sign", "--path", "--bindings", "itself.lvs", "-"], 0, both, given=b"/ /")
+    yield Run(["sign", "--bindings", "b.lvs", "/a", "/b"], 1, "not allowed\n")
+    yield Run(["sign", "--bindings", "b.lvs", "/a", "0x"], 2, REFUSED[25] + "\n")
+
+
 # paths
 
 ARTICLE_PATH = "0,0,4,0,0,0,0,0,2,0,0,0,0,0"
@@ -362,7 +440,7 @@ ARTICLE_PATH = "0,0,4,0,0,0,0,0,2,0,0,0,0,0"
 
 def path_runs():
     yield Run(["sign", "--path", "example.lvs", ARTICLE, AUTHOR], 0, f"""\
-{ALLOWED}  packet:
+{ALLOWED}{ARTICLE_BINDINGS}  packet:
     node 0, edge 0, value: ndn -> node 1
     node 1, edge 0, value: blog -> node 2
     node 2, edge 4, pattern tag 2: 100001 -> node 25
@@ -383,6 +461,8 @@ def path_runs():
     # ordinals go on from value to pattern edges; rule names and symbols
     yield Run(["sign", "named.lvs", "/v=3/x", "/me", "--path"], 0, """\
 allowed: packet at node 3 (#end), key at node 2
+  user = me, from the key
+  part (tag 2) = x, from the packet
   packet:
     node 0, edge 0, value: v=3 -> node 1 (#time, #v)
     node 1, edge 0, pattern part (tag 2): x -> node 3 (#end)
@@ -392,6 +472,7 @@ allowed: packet at node 3 (#end), key at node 2
 """)
     yield Run(["sign", "--path", "-", "/a/b/a", "/a/%2F/a"], 0, """\
 allowed: packet at node 3, key at node 3
+  user = a, from the packet
   packet:
     node 0, edge 0, pattern user (tag 1): a -> node 1
     node 1, edge 0, pattern _role (tag 2): b -> node 2
@@ -408,9 +489,11 @@ allowed: packet at node 3, key at node 3
     edges.append({"from": 1, "edge": 0, "tag": 2, "symbol": "part", "temporary": False, "component": "x", "to": 3})
     by = [{"from": 0, "edge": 1, "tag": 1, "symbol": "user", "temporary": False, "component": "me", "to": 2}]
     of = {"answer": "allowed", "packet_node": 3, "key_node": 2, "packet_rules": ["#end"], "key_rules": []}
+    of |= {"bindings": binding_objects((1, "user", "me", "key", 2, 4), (2, "part", "x", "packet", 5, 3))}
     of |= {"path": [0, 0, 1], "packet_edges": edges, "key_edges": by}
     yield Run(["sign", "--path", "--json", "named.lvs", "/v=3/x", "/me"], 0, json.dumps(of) + "\n")
-    nothing = {"answer": "allowed", "packet_node": 0, "key_node": 0, "packet_rules": [], "key_rules": [], "path": [], "packet_edges": [], "key_edges": []}
+    nothing = {"answer": "allowed", "packet_node": 0, "key_node": 0, "packet_rules": [], "key_rules": [], "bindings": []}
+    nothing |= {"path": [], "packet_edges": [], "key_edges": []}
     yield Run(["sign", "--path", "--json", "itself.lvs", "/", "/"], 0, json.dumps(nothing) + "\n")
     # other answers have none
     yield Run(["sign", "--path", "b.lvs", "/a", "/b"], 1, "not allowed\n")
@@ -418,7 +501,7 @@ allowed: packet at node 3, key at node 3
     yield Run(["sign", "--path", "b.lvs", "/a", "0x"], 2, REFUSED[25] + "\n")
     # of many pairs
     given = b"/v=3/x /me\n/v=3/x /a/b\n/v=3/x 0x\n/v=3/x\n"
-    lines = f"{pair_line(1, 'allowed: packet at node 3 (#end), key at node 2', '/v=3/x', '/me')[:-1]}  path 0,0,1\n"
+    lines = pair_line(1, "allowed: packet at node 3 (#end), key at node 2", "/v=3/x", "/me", "path 0,0,1")
     lines += pair_line(2, "not allowed", "/v=3/x", "/a/b") + pair_line(3, REFUSED[25], "/v=3/x", "0x")
     wrong = "1 word, not a packet name and a key name"
     yield Run(["sign", "--path", "named.lvs", "-"], 3, lines, f"lvs: line 4: {wrong}\n", given)
@@ -537,15 +620,14 @@ def bad_entry(i, line, text, number):
 
 
 def suggest_runs():
-    admin, other = "/ndn/blog/admin/000001/KEY/1/root/1", "/ndn/blog/author/100002/KEY/1/000001/1"
-    file = "certificates.txt"
+    other, file = "/ndn/blog/author/100002/KEY/1/000001/1", "certificates.txt"
     yield Run(["suggest", "-", ARTICLE, file], 0, AUTHOR + "\n", given=EXAMPLE)
     for packet, name in (
         (ARTICLE, AUTHOR),
         ("/ndn/blog/100002/post/2022/1", other),
-        ("/ndn/blog/100009/post/2022/1", admin),
-        (AUTHOR, admin),
-        (admin, ROOT_KEY),
+        ("/ndn/blog/100009/post/2022/1", ADMIN),
+        (AUTHOR, ADMIN),
+        (ADMIN, ROOT_KEY),
     ):
         yield Run(["suggest", "example.lvs", packet, file], 0, name + "\n")
     for packet in ROOT_KEY, "/ndn/blog/100001/post/202/1", "/", "/no/such/name":
@@ -1107,7 +1189,7 @@ def run(words, folder, given=b"", command=COMMAND, **how):
 
 def check_runs(folder):
     lists = suggest_runs, refused_list_runs, long_list_runs, list_mistake_runs
-    parts = judge_runs, malformed_runs, match_runs, sign_runs, batch_runs, path_runs, follow_runs, *lists, tree_runs, show_runs, error_runs
+    parts = judge_runs, malformed_runs, match_runs, sign_runs, batch_runs, binding_runs, path_runs, follow_runs, *lists, tree_runs, show_runs, error_runs
     runs = [one for part in parts for one in part()]
     with concurrent.futures.ThreadPoolExecutor(os.cpu_count()) as pool:
         found = pool.map(lambda one: run(one.words, folder, one.given), runs)
@@ -1180,6 +1262,203 @@ def check_line(of, place, is_explained=False):
         check(f"an explanation of {of.hex()} at {place}", (len(words), malformed.UNEXPLAINED in words[0]), (2, False))
 
 
+# bindings, without a process for each
+
+
+def match_words(answer, *words):
+    """A line of the driver: a match, and its binding words, 0 where no more are given."""
+    return " ".join([answer, *map(str, words), *["0"] * (384 - len(words))])
+
+
+def pair_words(answer, *words, path=()):
+    """The same of a pair, with its path."""
+    return " ".join([match_words(answer, *words), *map(str, path), *["0"] * (64 - len(path))])
+
+
+def check_binding_words():
+    """Lines of the driver with words that no call leaves. Of /a the only component is 2, 3, and of /bb 2, 4."""
+    match_case, sign_case = driver.match_case(B, names.name("/a")), driver.sign_case(B, names.name("/a"), names.name("/bb"))
+    wrong = (2, 3, 0), (2, 3, 3), (2, 3, 4294967295), (0, 3, 1), (2, 0, 1), (2, 0, 0), (0, 3, 0), (0, 0, 1), (0, 0, 3), (1, 4, 1)
+    wrong += (2, 4, 1), (2, 2, 1), (3, 2, 1), (3, 3, 1), (5, 3, 1), (0, 5, 1), (4294967295, 3, 1), (2, 4294967295, 1), (2, 3, 2)
+    lines = []
+    for words in wrong:
+        said = f"answers with the words {', '.join(map(str, words))} for tag"
+        lines.append((match_case, match_words("match 1 1", *words), f"{said} 1, which are no binding"))
+        lines.append((sign_case, pair_words("allowed 1 1", 2, 3, 1, *words), f"{said} 2, which are no binding"))
+    said = "answers with the words 2, 4, 2 for tag 1, which are no binding"
+    lines.append((match_case, match_words("match 1 1", 2, 4, 2), said))  # there is no key
+    lines.append((match_case, match_words("match 1 1", *[0] * 381, 2, 4, 2), said.replace("tag 1", "tag 128")))
+    for found, bound, words in ("2 bound tags", 2, (2, 3, 1)), ("0 bound tags", 0, (2, 3, 1)), ("1 bound tag", 1, ()):
+        lines.append((match_case, match_words(f"match 1 {bound}", *words), f"answers with {found}, and with the words of {len(words) // 3}"))
+    # a word more or less, no bindings or no path
+    bound, both = match_words("match 1 1", 2, 3, 1), pair_words("allowed 1 1", 2, 3, 1)
+    no_words = (match_case, "match 1 1"), (sign_case, "allowed 1 1"), (sign_case, match_words("allowed 1 1", 2, 3, 1)), (sign_case, "allowed 1 1" + " 0" * 64)
+    for case, line in (match_case, bound + " 0"), (match_case, bound[:-2]), (sign_case, both + " 0"), (sign_case, both[:-2]), *no_words:
+        lines.append((case, line, f"printed {line[:60]!r}, which is no answer"))
+    for case, line, text in lines:
+        check(f"the line {line}"[:200], failure(driver.answer_of, case, line), f"lvs_cases {text}")
+    for case, line, bindings in (
+        (match_case, match_words("match 1 1", 2, 3, 1), [(1, "a", "packet", 2, 3)]),
+        (match_case, match_words("match 1 1", *[0] * 381, 2, 3, 1), [(128, "a", "packet", 2, 3)]),
+        (match_case, match_words("match 0 0"), []),
+        (sign_case, pair_words("allowed 1 1", 2, 4, 2, 0, 0, 0, 2, 3, 1), [(1, "bb", "key", 2, 4), (3, "a", "packet", 2, 3)]),
+        (sign_case, pair_words("allowed 1 1", *[0] * 381, 2, 4, 2, path=range(64)), [(128, "bb", "key", 2, 4)]),
+    ):
+        check(f"the bindings of {line}"[:200], list(driver.answer_of(case, line).bindings), bindings)
+
+
+class Part(description.Value):
+    """A component, which knows its name and its place there."""
+
+
+def placed(name, origin):
+    """The components of a name, each with its origin, start and length."""
+    values = crossings.components(name)
+    sizes = [len(element(*value)) for value in values]
+    parts, start = [], len(name) - sum(sizes)
+    for value, size in zip(values, sizes):
+        parts.append(Part(*value))
+        parts[-1].origin, parts[-1].start, parts[-1].length = origin, start, size
+        start += size
+    return parts
+
+
+def matches(of, parts, bindings, at):
+    """(node, bindings) of each match, in order, by docs/format.md, 7.2 to 7.5: from these bindings, and at this node."""
+    if not parts:
+        yield at, bindings
+        return
+    for edge in crossings.edges(of.nodes[at]):
+        after = dict(bindings)
+        if not crossings.obstacle(of, edge, parts[0], after):
+            yield from matches(of, parts[1:], after, edge.to)
+
+
+def pairs_of(of, packet, key):
+    """(the two nodes, bindings) of each pair, in order."""
+    for at, bindings in matches(of, packet, {}, of.start):
+        for by, both in matches(of, key, bindings, of.start):
+            if by in of.nodes[at].signers:
+                yield (at, by), both
+
+
+def tags_along(of, packet, key, path):
+    """(Tag, component) of each edge with a Tag, along a path that is accepted."""
+    ordinals = iter(path)
+    for parts in packet, key:
+        at = of.start
+        for part in parts:
+            edge = crossings.edges(of.nodes[at])[next(ordinals)]
+            if isinstance(edge, description.PatternEdge):
+                yield edge.tag, part
+            at = edge.to
+
+
+def bound_along(of, packet, key, path):
+    """The bindings of such a path: each named Tag's first component."""
+    bindings = {}
+    for each, part in tags_along(of, packet, key, path):
+        if each.number <= of.patterns:
+            bindings.setdefault(each, part)
+    return bindings
+
+
+def kinds_along(of, packet, key, path):
+    """What becomes of each Tag on such a path."""
+    bindings = bound_along(of, packet, key, path)
+    yield "some tags are bound" if bindings else "no tag is bound"
+    for each, part in tags_along(of, packet, key, path):
+        if each not in bindings:
+            yield "temporary"
+        elif bindings[each] is part:
+            yield f"bound in the {part.origin}"
+        else:
+            yield f"bound in the {bindings[each].origin}, met again in the {part.origin}"
+
+
+def shown_bindings(of, bindings):
+    """What is printed of bindings: the lines, the part of a line, and the objects."""
+    symbols = {one.tag: one.identifier.decode() for one in reversed(of.symbols)}
+    often = collections.Counter(symbols.values())
+    lines, parts, objects = [], [], []
+    for (n,), part in sorted(bindings.items()):
+        symbol, component_text = symbols.get(n), text_form.component_text(part)
+        text = f"{symbol} (tag {n})" if often[symbol] > 1 else symbol or f"tag {n}"
+        lines.append(f"  {text} = {component_text}, from the {part.origin}")
+        parts.append(f"{text} = {component_text} ({part.origin})")
+        objects.append((n, symbol, component_text, part.origin, part.start, part.length))
+    return lines, "bindings " + (", ".join(parts) or "none"), binding_objects(*objects)
+
+
+def printed_bindings(answer, labels):
+    return answer.lines(labels), answer.bindings_line(labels), answer.object(labels)["bindings"]
+
+
+def small_model(chance):
+    """A model with few Tags, most of them named, so that names bind them and meet them again."""
+    parents = [None, *(max(0, i - chance.choice((1, 1, 2, 3))) for i in range(1, chance.randint(2, 8)))]
+    options = [value("x"), tag(chance.randint(1, 4)), call("$eq_type", tag(chance.randint(1, 4))), call("$eq", tag(1))]
+    nodes = []
+    for i, up in enumerate(parents):
+        children = [j for j, of in enumerate(parents) if of == i for _ in range(chance.choice((1, 1, 2)))]
+        patterns = [j for j in children if chance.random() < 0.8]
+        constraints = [[constraint(*map(option, chance.choices(options, k=2)))] if chance.random() < 0.2 else [] for _ in patterns]
+        edges = [value_edge(j, chance.choice("xy")) for j in children if j not in patterns]
+        edges += (pattern_edge(j, chance.choice((1, 1, 2, 3, 4)), *each) for j, each in zip(patterns, constraints))
+        signers = [signer(j) for j in range(len(parents)) if chance.random() < 0.6]
+        nodes.append(node(i, *([] if up is None else [parent(up)]), *edges, *signers))
+    symbols = (symbol(chance.randint(1, 4), chance.choice(("user", "part", "_role"))) for _ in range(chance.randrange(6)))
+    return model(*nodes, patterns=chance.choice((0, 2, 3, 4, 4, 128)), behind=b"".join(symbols))
+
+
+TEXTS = "x", "x", "x", "y", "a/b,%\x1b", "", "...", "z" * 253
+VALUES = [*(description.Value(8, text.encode()) for text in TEXTS), description.Value(54, b"\x03"), description.Value(9, b"=")]
+
+
+def small_pairs(count, chance):
+    """(model, its description, packet name, key name) for so many models."""
+    for of, model_of in described(small_model(chance) for _ in range(count)).items():
+        for _ in range(12):
+            bound = {}
+            yield of, model_of, walked_name(model_of, bound, chance), walked_name(model_of, bound, chance)
+
+
+def walked_name(of, bound, chance):
+    """A name that leads along some edges, if their Constraints hold. `bound` has what was taken for Tags, and mostly is taken again."""
+    at, parts = of.start, []
+    while (out := crossings.edges(of.nodes[at])) and chance.random() < 0.8:
+        edge, any_value = chance.choice(out), chance.choice(VALUES)
+        if isinstance(edge, description.ValueEdge):
+            parts.append(edge.value)
+        else:
+            parts.append(bound.setdefault(edge.tag, any_value) if chance.random() < 0.9 else any_value)
+        at = edge.to
+    return crossings.name_of(parts)
+
+
+def check_bindings():
+    """What is shown of the bindings of pairs and matches, against a search of one's own; of the run cases' pairs, against their paths."""
+    chance, kinds = random.Random(0), collections.Counter()
+    asked = [*small_pairs(250, chance), *((one.model, one.described, one.packet, one.key) for one in random_paths(100))]
+    signed = driver.ask([driver.sign_case(of, packet, key) for of, _, packet, key in asked])
+    matched = driver.ask([driver.match_case(of, packet) for of, _, packet, _ in asked])
+    for (of, model_of, *both), pair_answer, match_answer in zip(asked, signed, matched):
+        what, labels = f"{' and '.join(each.hex() for each in both)} in {of.hex()}"[:300], Labels(of)
+        packet, key = map(placed, both, ("packet", "key"))
+        nodes, bindings = next(pairs_of(model_of, packet, key), (None, None))
+        is_allowed = isinstance(pair_answer, answers.Allowed)
+        found = is_allowed and (pair_answer.packet_node, pair_answer.key_node, printed_bindings(pair_answer, labels))
+        check(f"the pair of {what}", found, nodes is not None and (*nodes, shown_bindings(model_of, bindings)))
+        kinds.update(kinds_along(model_of, packet, key, pair_answer.path) if is_allowed else ["not allowed"])
+        at, bindings = next(matches(model_of, packet, {}, model_of.start), (None, None))
+        found = isinstance(match_answer, answers.Match) and (match_answer.node, match_answer.bound, printed_bindings(match_answer, labels))
+        check(f"the match of {what}", found, at is not None and (at, len(bindings), shown_bindings(model_of, bindings)))
+    check("how often each thing becomes of a Tag", (len(kinds), min(kinds.values()) >= 50), (9, True))
+    for of, model_of, packet, key, answer in allowed_pairs():
+        bindings = bound_along(model_of, placed(packet, "packet"), placed(key, "key"), answer.path)
+        check(f"the bindings of a run case in {of.hex()}"[:300], printed_bindings(answer, Labels(of)), shown_bindings(model_of, bindings))
+
+
 class Followed:
     """A path that is followed, by a model and its description, two names and words; and what is wrong with it."""
 
@@ -1200,29 +1479,31 @@ def described(models):
     return {of: description.from_lists(one.numbers, one.texts) for of, one in zip(models, driver.ask(list(map(driver.describe_case, models))))}
 
 
+@functools.lru_cache
 def allowed_pairs():
-    """(model, packet name, key name, answer) of each allowed pair of the run cases and of the example."""
+    """(model, its description, packet name, key name, answer) of each allowed pair of the run cases and of the example."""
     pairs = [tuple(fields(case))[:3] for case in run_cases() if case[:1] in b"SP"]
     pairs += ((EXAMPLE, names.name(packet), names.name(key)) for packet, key in names.pairs(REQUESTS.splitlines()))
     pairs = list(dict.fromkeys(pairs))
-    return [(*of, answer) for of, answer in zip(pairs, driver.ask([driver.sign_case(*of) for of in pairs])) if isinstance(answer, answers.Allowed)]
+    allowed = [(*of, answer) for of, answer in zip(pairs, driver.ask([driver.sign_case(*of) for of in pairs])) if isinstance(answer, answers.Allowed)]
+    of_models = described(of for of, *_ in allowed)
+    return [(of, of_models[of], *rest) for of, *rest in allowed]
 
 
 def printed_paths():
     """The path of each allowed pair as `lvs sign --path` prints it, read as `lvs follow` does; and the same with one word changed."""
     chance, pairs = random.Random(0), allowed_pairs()
     check("how many pairs are allowed", len(pairs) > 500, True)
-    of_models = described(of for of, *_ in pairs)
-    for of, packet, key, answer in pairs:
+    for of, model_of, packet, key, answer in pairs:
         *_, line = paths.AllowedPath(answer, Labels(of), packet, key).lines()
-        one = Followed(of, of_models[of], packet, key, paths.read_path(line.removeprefix("  path ")))
+        one = Followed(of, model_of, packet, key, paths.read_path(line.removeprefix("  path ")))
         check(f"the path {line} of {of.hex()}"[:200], one.fault, None)
         yield one
         for i in chance.sample(range(len(one.path)), min(2, len(one.path))):
             other = chance.choice([word for word in (0, 1, 2, one.path[i] + 1, 65535) if word != one.path[i]])
             yield one.changed(*one.path[:i], other, *one.path[i + 1 :])
         yield one.changed(*one.path, 0)
-        yield Followed(of, of_models[of], key, packet, one.path)
+        yield Followed(of, model_of, key, packet, one.path)
 
 
 def random_paths(count):
@@ -1518,22 +1799,26 @@ def check_builds(folder):
         programmed(program, f"cat >/dev/null; echo {line}")
         text = f"lvs: lvs_cases takes only 65,536 bytes of this input, and answers {line!r}\n"
         check(f"{line} of a cut list", answered(["suggest", "b.lvs", "/a", "-"], b"/" + b"a" * 65536), (3, "", text))
-    words = " ".join(["0"] * 63)
     sign_path, follow_path = ["sign", "--path", "b.lvs", "/a", "/a"], ["follow", "b.lvs", "/a", "/a", "0,0"]
     for asked, line, text in (
         (["judge", "b.lvs"], "accepted", "printed 'accepted', which is no answer"),
-        (sign_path, "allowed 1 1", "printed 'allowed 1 1', which is no answer"),
-        (sign_path, f"allowed 1 1 {words}", f"printed {f'allowed 1 1 {words}'[:60]!r}, which is no answer"),
-        (sign_path, f"allowed 1 1 7 {words}", "answers with the path 7,0, which does not lead to its nodes"),
-        (sign_path, f"allowed 1 0 0 {words}", "answers with the path 0,0, which does not lead to its nodes"),
+        (sign_path, pair_words("allowed 1 1", path=(7,)), "answers with the path 7,0, which does not lead to its nodes"),
+        (sign_path, pair_words("allowed 1 0"), "answers with the path 0,0, which does not lead to its nodes"),
         (follow_path, "accepted 2", "printed 'accepted 2', which is no answer"),
         (follow_path, "not allowed", "printed 'not allowed', which is no answer"),
         (follow_path, "no match", "printed 'no match', which is no answer"),
+        (["match", "b.lvs", "/a"], match_words("match 1 1", 2, 3, 2), "answers with the words 2, 3, 2 for tag 1, which are no binding"),
+        (["sign", "b.lvs", "/a", "/a"], pair_words("allowed 1 1", 2, 3), "answers with the words 2, 3, 0 for tag 1, which are no binding"),
+        (["sign", "b.lvs", "/a", "/a"], "allowed 1 1", "printed 'allowed 1 1', which is no answer"),
     ):
         programmed(program, f"cat >/dev/null; echo {line}")
-        check(f"the line {line}", answered(asked), (3, "", f"lvs: lvs_cases {text}\n"))
-    programmed(program, f"cat >/dev/null; echo refused 34 0 {words}")
-    check("too few words for a path", answered(sign_path), (2, REFUSED[34] + "\n", ""))
+        check(f"the line {line}"[:200], answered(asked), (3, "", f"lvs: lvs_cases {text}\n"))
+    for number in 27, 34:
+        programmed(program, f"cat >/dev/null; echo {pair_words(f'refused {number} 0')}")
+        check("too few words for the bindings or the path", answered(sign_path), (2, REFUSED[number] + "\n", ""))
+    programmed(program, f"head -c 1 | grep -q V && echo accepted 2 || echo {pair_words('allowed 1 1', 2, 3)}")
+    text = "lvs: lvs_cases answers with the words 2, 3, 0 for tag 1, which are no binding\n"
+    check("no binding of a pair from standard input", answered(["sign", "b.lvs", "-"], b"/a /a"), (3, "", text))
     programmed(program, "head -c 1 | grep -q C && echo refused 32 0 || echo not allowed")
     text = "lvs: lvs_cases refuses line 1 of the list, but takes it as a key name\n"
     check("an entry refused without a reason", answered(["suggest", "b.lvs", "/a", "-"], b"/a"), (3, "", text))
@@ -1559,6 +1844,8 @@ def main_checks():
     check_uris()
     check_elements()
     check_explanations()
+    check_binding_words()
+    check_bindings()
     check_paths()
     check_round_trips()
     check_fault()

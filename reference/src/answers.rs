@@ -9,8 +9,10 @@ use crate::names::{Name, Role};
 use crate::verdict::{load, Reason, Refusal, MAX_TAG};
 use crate::walk::{visit_matches, Bindings, Trace};
 
-/// The words that a binding buffer needs: two for each Tag.
-pub const BINDING_WORDS: usize = 2 * MAX_TAG as usize;
+/// The words that each Tag has in a binding buffer: start, length and origin.
+const WORDS_OF_TAG: usize = 3;
+/// The words that a binding buffer needs.
+pub const BINDING_WORDS: usize = WORDS_OF_TAG * MAX_TAG as usize;
 
 /// What the match call answers.
 #[derive(Clone, Copy, Debug, PartialEq, Eq)]
@@ -57,7 +59,7 @@ impl fmt::Display for SignAnswer {
 }
 
 /// The first match of a name. On a match the buffer's first words hold each
-/// Tag's start and length, 0 and 0 if unbound; otherwise it is kept.
+/// Tag's start, length and origin, all 0 if unbound; otherwise it is kept.
 pub fn match_name(model: &[u8], name: &[u8], buffer: &mut [u32]) -> MatchAnswer {
     try_match(model, name, buffer).unwrap_or_else(MatchAnswer::Refused)
 }
@@ -65,9 +67,7 @@ pub fn match_name(model: &[u8], name: &[u8], buffer: &mut [u32]) -> MatchAnswer 
 fn try_match(model: &[u8], name: &[u8], buffer: &mut [u32]) -> Result<MatchAnswer, Refusal> {
     let model = load(model)?;
     let name = Name::load(name, Role::Packet)?;
-    let words = buffer
-        .get_mut(..BINDING_WORDS)
-        .ok_or(Reason::BufferTooShort)?;
+    let words = binding_words(buffer)?;
     let first = visit_matches(
         &model,
         &name.components,
@@ -83,53 +83,72 @@ fn try_match(model: &[u8], name: &[u8], buffer: &mut [u32]) -> Result<MatchAnswe
     Ok(first.break_value().unwrap_or(MatchAnswer::NoMatch))
 }
 
+/// The words of a lent buffer that bindings are written to.
+fn binding_words(buffer: &mut [u32]) -> Result<&mut [u32], Refusal> {
+    let words = buffer.get_mut(..BINDING_WORDS);
+    words.ok_or(Reason::BufferTooShort.into())
+}
+
 fn write_bindings(bindings: &Bindings, words: &mut [u32]) {
-    for (slot, pair) in bindings.slots().iter().zip(words.chunks_exact_mut(2)) {
-        let (start, length) = slot.map_or((0, 0), |bound| (bound.start, bound.length));
-        pair.copy_from_slice(&[start, length]);
+    let places = words.chunks_exact_mut(WORDS_OF_TAG);
+    for (slot, place) in bindings.slots().iter().zip(places) {
+        place.copy_from_slice(&slot.map_or([0; WORDS_OF_TAG], |bound| {
+            [bound.start, bound.length, bound.role.origin()]
+        }));
     }
 }
 
 /// Whether a key of this name may sign a packet of that name. If it may, the
-/// first words hold the path, one for each component of the packet's name, then
-/// one for each of the key's; those behind are kept, and otherwise all are.
-pub fn sign(model: &[u8], packet: &[u8], key: &[u8], path: &mut [u16]) -> SignAnswer {
-    try_sign(model, packet, key, path).unwrap_or_else(SignAnswer::Refused)
+/// buffer's first words hold the bindings of the pair that is answered, as after
+/// a match, and the first words of the path one for each component of the
+/// packet's name, then one for each of the key's. Those behind are kept, and
+/// otherwise all are.
+pub fn sign(
+    model: &[u8],
+    packet: &[u8],
+    key: &[u8],
+    buffer: &mut [u32],
+    path: &mut [u16],
+) -> SignAnswer {
+    try_sign(model, packet, key, buffer, path).unwrap_or_else(SignAnswer::Refused)
 }
 
 fn try_sign(
     model: &[u8],
     packet: &[u8],
     key: &[u8],
+    buffer: &mut [u32],
     path: &mut [u16],
 ) -> Result<SignAnswer, Refusal> {
     let model = load(model)?;
     let packet = Name::load(packet, Role::Packet)?;
     let key = Name::load(key, Role::Key)?;
-    let words = path
+    let words = binding_words(buffer)?;
+    let path = path
         .get_mut(..packet.components.len() + key.components.len())
         .ok_or(Reason::PathTooShort)?;
-    let Some(pair) = first_allowed(&model, &packet, &key) else {
-        return Ok(SignAnswer::NotAllowed);
-    };
-    words.copy_from_slice(&pair.path);
-    Ok(SignAnswer::Allowed {
-        packet: pair.packet,
-        key: pair.key,
-    })
+    let first = visit_allowed(&model, &packet, &key, &mut |pair| {
+        write_bindings(&pair.trace.bindings, words);
+        path.copy_from_slice(&pair.trace.path);
+        ControlFlow::Break(SignAnswer::Allowed {
+            packet: pair.packet,
+            key: pair.key,
+        })
+    });
+    Ok(first.break_value().unwrap_or(SignAnswer::NotAllowed))
 }
 
 /// A match of a packet, with one of a key under its bindings.
-#[derive(Clone, Debug, PartialEq, Eq)]
-pub struct Pair {
+#[derive(Clone, Copy, Debug)]
+pub struct Pair<'t, 'n> {
     /// The nodes that are matched.
     pub packet: usize,
     pub key: usize,
-    /// The ordinals of the edges crossed, the packet's and then the key's.
-    pub path: Vec<u16>,
+    /// What both walks bound and crossed, the packet's and then the key's.
+    pub trace: &'t Trace<'n>,
 }
 
-impl Pair {
+impl Pair<'_, '_> {
     /// Whether the packet's node lists the key's among its signers.
     pub fn is_allowed(&self, model: &Model) -> bool {
         let signers = &model.nodes[self.packet].signers;
@@ -137,30 +156,38 @@ impl Pair {
     }
 }
 
-/// The first pair that is allowed, for inputs that have been tested.
-pub fn first_allowed<'n>(model: &Model, packet: &Name<'n>, key: &Name<'n>) -> Option<Pair> {
-    let first = visit_pairs(model, packet, key, &mut |pair| {
+/// Whether a pair is allowed, for inputs that have been tested.
+pub fn may_sign<'n>(model: &Model, packet: &Name<'n>, key: &Name<'n>) -> bool {
+    visit_allowed(model, packet, key, &mut |_| ControlFlow::Break(())).is_break()
+}
+
+/// Visits the pairs that are allowed in their order, while the visitor says so.
+pub fn visit_allowed<'n, T>(
+    model: &Model,
+    packet: &Name<'n>,
+    key: &Name<'n>,
+    visit: &mut impl FnMut(Pair<'_, 'n>) -> ControlFlow<T>,
+) -> ControlFlow<T> {
+    visit_pairs(model, packet, key, &mut |pair| {
         if pair.is_allowed(model) {
-            ControlFlow::Break(pair)
+            visit(pair)
         } else {
             ControlFlow::Continue(())
         }
-    });
-    first.break_value()
+    })
 }
 
-/// Visits all pairs in their order, allowed or not, while the visitor says so.
+/// The same for all pairs, allowed or not.
 pub fn visit_pairs<'n, T>(
     model: &Model,
     packet: &Name<'n>,
     key: &Name<'n>,
-    visit: &mut impl FnMut(Pair) -> ControlFlow<T>,
+    visit: &mut impl FnMut(Pair<'_, 'n>) -> ControlFlow<T>,
 ) -> ControlFlow<T> {
     let trace = &mut Trace::default();
     visit_matches(model, &packet.components, trace, &mut |packet, trace| {
         visit_matches(model, &key.components, trace, &mut |key, trace| {
-            let path = trace.path.clone();
-            visit(Pair { packet, key, path })
+            visit(Pair { packet, key, trace })
         })
     })
 }

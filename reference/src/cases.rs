@@ -43,6 +43,7 @@ pub enum Case {
         model: Vec<u8>,
         packet: Vec<u8>,
         key: Vec<u8>,
+        words: Vec<u32>,
         path: Vec<u16>,
     },
     Follow {
@@ -95,14 +96,27 @@ impl Case {
                 model,
                 packet,
                 key,
+                words,
                 path,
-            } => (b'S', path_fields(model, packet, key, path)),
+            } => (
+                b'S',
+                vec![
+                    model.into(),
+                    packet.into(),
+                    key.into(),
+                    word_field(words),
+                    path_field(path),
+                ],
+            ),
             Case::Follow {
                 model,
                 packet,
                 key,
                 path,
-            } => (b'P', path_fields(model, packet, key, path)),
+            } => (
+                b'P',
+                vec![model.into(), packet.into(), key.into(), path_field(path)],
+            ),
             Case::Write {
                 numbers,
                 texts,
@@ -148,6 +162,7 @@ impl Case {
                 model: read_field(input, MAX_MODEL_FIELD)?,
                 packet: read_field(input, MAX_NAME_FIELD)?,
                 key: read_field(input, MAX_NAME_FIELD)?,
+                words: read_list(input, MAX_WORDS, u32::from_be_bytes)?,
                 path: read_list(input, MAX_PATH_WORDS, u16::from_be_bytes)?,
             },
             b'P' => Case::Follow {
@@ -198,9 +213,12 @@ impl Case {
                 model,
                 packet,
                 key,
+                mut words,
                 mut path,
             } => {
-                write!(out, "{}", sign(&model, &packet, &key, &mut path))?;
+                let answer = sign(&model, &packet, &key, &mut words, &mut path);
+                write!(out, "{answer}")?;
+                write_numbers(out, &words)?;
                 write_numbers(out, &path)?;
                 writeln!(out)
             }
@@ -265,15 +283,8 @@ fn joined<T, const N: usize>(items: &[T], bytes: impl Fn(&T) -> [u8; N]) -> Vec<
     items.iter().flat_map(bytes).collect()
 }
 
-/// The fields of a call with a path.
-fn path_fields<'c>(
-    model: &'c [u8],
-    packet: &'c [u8],
-    key: &'c [u8],
-    path: &[u16],
-) -> Vec<Cow<'c, [u8]>> {
-    let words = joined(path, |word| word.to_be_bytes());
-    vec![model.into(), packet.into(), key.into(), words.into()]
+fn path_field(path: &[u16]) -> Cow<'static, [u8]> {
+    joined(path, |word| word.to_be_bytes()).into()
 }
 
 fn word_field(words: &[u32]) -> Cow<'static, [u8]> {
@@ -358,6 +369,7 @@ mod tests {
                 model: vec![9],
                 packet: vec![],
                 key: vec![7],
+                words: vec![2, 0xFFFF_FFFE],
                 path: vec![0, 1, 256, 65_535],
             },
             Case::Follow {
@@ -402,14 +414,17 @@ mod tests {
         assert_eq!(read_all(b"M\0\0\0\0\0\0\0\0\0\0\0\x01\0"), Err(Broken));
         assert_eq!(read_all(b"S\0\0\0\0\0\0\x10\x01"), Err(Broken));
         assert_eq!(
-            read_all(b"S\0\0\0\0\0\0\0\0\0\0\0\0"),
+            read_all(b"S\0\0\0\0\0\0\0\0\0\0\0\0\0\0\0\0"),
             Err(Broken),
-            "three fields only"
+            "four fields only"
         );
-        for letter in [b"S", b"P"] {
-            let odd = [&letter[..], &[0; 12], &[0, 0, 0, 3, 1, 2, 3]].concat();
+        for (letter, fields_before) in [(b"S", 4), (b"P", 3)] {
+            let before = [0; 4].repeat(fields_before);
+            let odd = [letter, &before[..], &[0, 0, 0, 3, 1, 2, 3]].concat();
             assert_eq!(read_all(&odd), Err(Broken));
         }
+        let part_word = [b"S", &[0; 12][..], &[0, 0, 0, 6, 0, 0, 0, 0, 0, 0], &[0; 4]];
+        assert_eq!(read_all(&part_word.concat()), Err(Broken));
         assert_eq!(read_all(b"W\0\0\0\x01\0\0\0\0\0\0\0\0\0"), Err(Broken));
         assert_eq!(read_all(b""), Ok(vec![]));
     }
@@ -468,23 +483,35 @@ mod tests {
 
     /// Model B of the papers, and /a by the key /a.
     #[test]
-    fn lines_with_paths() {
+    fn lines_with_words() {
         let model = *b"\x61\x04\0\x01\x10\0\x25\x01\0\x69\x01\x01\x63\x0B\x25\x01\0\
                        \x53\x06\x25\x01\x01\x23\x01\x01\x63\x09\x25\x01\x01\x57\x01\0\x55\x01\x01";
         let name = |letter: u8| vec![7, 3, 8, 1, letter];
-        let sign = |key: u8, path: &[u16]| {
+        let sign = |key: u8, words: &[u32], path: &[u16]| {
             line(Case::Sign {
                 model: model.into(),
                 packet: name(b'a'),
                 key: name(key),
+                words: words.into(),
                 path: path.into(),
             })
         };
-        assert_eq!(sign(b'a', &[7, 8]), "allowed 1 1 0 0\n");
-        assert_eq!(sign(b'a', &[7, 8, 9, 65_535]), "allowed 1 1 0 0 9 65535\n");
-        assert_eq!(sign(b'b', &[7, 8, 9]), "not allowed 7 8 9\n");
-        assert_eq!(sign(b'b', &[258]), "refused 34 0 258\n");
-        assert_eq!(sign(b'a', &[]), "refused 34 0\n");
+        // one Tag is bound, the words behind the 384th are kept
+        let lent = [[5; 384].as_slice(), &[70_000, 6]].concat();
+        let bound = format!(" 2 3 1{} 70000 6", " 0".repeat(381));
+        let kept = format!("{} 70000 6", " 5".repeat(384));
+        let sign_lent = |key: u8, path: &[u16]| sign(key, &lent, path);
+        let allowed = |path: &str| format!("allowed 1 1{bound}{path}\n");
+        assert_eq!(sign_lent(b'a', &[7, 8]), allowed(" 0 0"));
+        let path = [7, 8, 9, 65_535];
+        assert_eq!(sign_lent(b'a', &path), allowed(" 0 0 9 65535"));
+        let not_allowed = format!("not allowed{kept} 7 8 9\n");
+        assert_eq!(sign_lent(b'b', &[7, 8, 9]), not_allowed);
+        let refused = |path: &str| format!("refused 34 0{kept}{path}\n");
+        assert_eq!(sign_lent(b'b', &[258]), refused(" 258"));
+        assert_eq!(sign_lent(b'a', &[]), refused(""));
+        assert_eq!(sign(b'a', &[], &[]), "refused 27 0\n");
+        assert_eq!(sign(b'a', &[3, 4], &[1]), "refused 27 0 3 4 1\n");
         let follow = |key: u8, path: &[u16]| {
             line(Case::Follow {
                 model: model.into(),
@@ -591,14 +618,21 @@ mod tests {
         assert!(!read(b"C", [65_537, 0, 0]));
         assert!(!read(b"C", [0, 4_097, 0]));
         assert!(!read(b"C", [0, 0, 65_537]));
-        for letter in [b"S", b"P"] {
-            let path = |length: u32| {
-                let fields = [0, 0, 0, length].map(field).concat();
-                read_all(&[&letter[..], &fields].concat()).is_ok()
-            };
-            assert!(path(4_096));
-            assert!(!path(4_098));
+        let read_last = |letter: &[u8], before: usize, length: u32| {
+            let fields = [field(0).repeat(before), field(length)].concat();
+            read_all(&[letter, &fields].concat()).is_ok()
+        };
+        for (letter, fields_before) in [(b"M", 2), (b"P", 3), (b"S", 4)] {
+            assert!(read_last(letter, fields_before, 4_096));
+            assert!(!read_last(letter, fields_before, 4_100));
         }
+        assert!(!read_last(b"P", 3, 4_098));
+        let words = |length: u32| {
+            let fields = [field(0).repeat(3), field(length), field(0)].concat();
+            read_all(&[b"S", &fields[..]].concat()).is_ok()
+        };
+        assert!(words(4_096));
+        assert!(!words(4_100));
         assert!(!read(b"D", [7, 4, 0]));
         assert!(!read(b"W", [12, 0, 0]));
     }

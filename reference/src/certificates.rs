@@ -2,7 +2,7 @@
 
 use std::fmt;
 
-use crate::answers::first_allowed;
+use crate::answers::may_sign;
 use crate::elements::{Element, Part};
 use crate::names::{Name, Role};
 use crate::verdict::{load, Reason, Refusal};
@@ -41,7 +41,7 @@ fn try_find(model: &[u8], packet: &[u8], list: &[u8]) -> Result<CertificateAnswe
     let certificates = load_entries(&cut(list)?)?;
     let first = certificates
         .iter()
-        .position(|certificate| first_allowed(&model, &packet, certificate).is_some());
+        .position(|certificate| may_sign(&model, &packet, certificate));
     Ok(first.map_or(CertificateAnswer::None, CertificateAnswer::Certificate))
 }
 

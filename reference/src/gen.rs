@@ -2,6 +2,7 @@
 //!
 //! A case depends on the seed and its own index only.
 
+mod bindings;
 mod certificates;
 mod components;
 mod counts;
@@ -9,6 +10,7 @@ mod damage;
 mod damaged;
 mod descriptions;
 mod faults;
+mod lent;
 mod list_damage;
 mod lists;
 mod models;
@@ -54,6 +56,7 @@ pub fn case(seed: u64, index: u64) -> Case {
             model: sample.bytes,
         },
         Call::Match => match_case(random, sample),
+        Call::Sign if random.chance(35) => bindings::binding_case(random, sample),
         Call::Sign => sign_case(random, sample),
     }
 }
@@ -67,7 +70,7 @@ fn match_case(random: &mut Random, sample: Sample) -> Case {
     Case::Match {
         model: sample.bytes,
         name,
-        words: words(random),
+        words: lent::binding_words(random),
     }
 }
 
@@ -75,30 +78,18 @@ fn sign_case(random: &mut Random, sample: Sample) -> Case {
     let models = Models::of(&sample);
     let (mut packet, mut key) = names::sign_names(random, &models.source);
     models.shorten_both(&mut packet, &mut key, MAX_WORK);
-    let needed = work::component_count(&packet) + work::component_count(&key);
-    let path = paths::lent_words(random, needed);
-    Case::Sign {
-        model: sample.bytes,
-        packet,
-        key,
-        path,
-    }
+    signing(random, sample.bytes, packet, key)
 }
 
-/// A binding buffer.
-fn words(random: &mut Random) -> Vec<u32> {
-    let length = match random.below(20) {
-        0 => *random.pick(&[255, 254, 255, 253]),
-        1 => random.below(256),
-        2..=4 => random.between(257, 300),
-        5 => *random.pick(&[511, 512, 513, 1_023, 1_024]),
-        _ => 256,
-    };
-    let first = random.below(1_000);
-    if random.chance(10) {
-        return (0..length).map(|_| random.number() as u32).collect();
+/// A signing call with words for bindings and path.
+fn signing(random: &mut Random, model: Vec<u8>, packet: Vec<u8>, key: Vec<u8>) -> Case {
+    let needed = work::component_count(&packet) + work::component_count(&key);
+    let path = lent::path_words(random, needed);
+    Case::Sign {
+        model,
+        packet,
+        key,
+        words: lent::binding_words(random),
+        path,
     }
-    (0..length)
-        .map(|place| ((first + place) % 1_000) as u32)
-        .collect()
 }

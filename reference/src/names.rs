@@ -69,10 +69,12 @@ impl From<Component<'_>> for OwnedComponent {
     }
 }
 
-/// A component of a name, with the place of its whole element in the name.
+/// A component of a name, with the place of its whole element: in which of the
+/// two names it stands, and where, counted from that name's first byte.
 #[derive(Clone, Copy, Debug, PartialEq, Eq)]
 pub struct PlacedComponent<'a> {
     pub component: Component<'a>,
+    pub role: Role,
     pub start: u32,
     pub length: u32,
 }
@@ -83,7 +85,8 @@ pub struct Name<'a> {
     pub components: Vec<PlacedComponent<'a>>,
 }
 
-/// Which of the two names of a call is meant; it decides the refusal numbers.
+/// Which of the two names of a call is meant; it decides the refusal numbers and
+/// the origin of bindings.
 #[derive(Clone, Copy, Debug, PartialEq, Eq)]
 pub enum Role {
     Packet,
@@ -91,6 +94,14 @@ pub enum Role {
 }
 
 impl Role {
+    /// The number that says which name a binding comes from.
+    pub fn origin(self) -> u32 {
+        match self {
+            Role::Packet => 1,
+            Role::Key => 2,
+        }
+    }
+
     fn too_long(self) -> Reason {
         match self {
             Role::Packet => Reason::PacketTooLong,
@@ -119,7 +130,7 @@ impl<'a> Name<'a> {
         if bytes.len() > MAX_NAME_BYTES {
             return Err(role.too_long().into());
         }
-        let name = Name::parse(bytes).map_err(|_| role.malformed())?;
+        let name = Name::parse(bytes, role).map_err(|_| role.malformed())?;
         if name.components.len() > MAX_COMPONENTS {
             return Err(role.too_many_components().into());
         }
@@ -127,7 +138,7 @@ impl<'a> Name<'a> {
     }
 
     /// Reads a name of any size.
-    fn parse(bytes: &'a [u8]) -> Result<Self, Malformed> {
+    fn parse(bytes: &'a [u8], role: Role) -> Result<Self, Malformed> {
         let (name, rest) = Element::read(Part::whole(bytes))?;
         if name.kind != kind::NAME || !rest.is_empty() {
             return Err(name.malformed());
@@ -138,6 +149,7 @@ impl<'a> Name<'a> {
             let (element, behind) = Element::read(inside)?;
             components.push(PlacedComponent {
                 component: element.try_into()?,
+                role,
                 start: element.start as u32,
                 length: (element.end() - element.start) as u32,
             });

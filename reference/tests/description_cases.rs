@@ -207,6 +207,7 @@ fn what_was_described_and_written_matches_and_signs_alike() {
             model,
             packet,
             key,
+            words,
             path,
         } = gen::case(13, index)
         else {
@@ -214,18 +215,18 @@ fn what_was_described_and_written_matches_and_signs_alike() {
         };
         if let Verdict::Accepted(_) = verdict(&model) {
             let written = model_of(&lists_of(&model));
-            let (mut path, mut same_path) = (path.clone(), path);
-            assert_eq!(
-                sign(&written, &packet, &key, &mut path),
-                sign(&model, &packet, &key, &mut same_path)
-            );
-            assert_eq!(path, same_path);
-            let (mut words, mut same_words) = ([9; 256], [9; 256]);
-            assert_eq!(
-                match_name(&written, &packet, &mut words),
-                match_name(&model, &packet, &mut same_words)
-            );
-            assert_eq!(words, same_words);
+            let signed = |model: &[u8]| {
+                let (mut words, mut path) = (words.clone(), path.clone());
+                let answer = sign(model, &packet, &key, &mut words, &mut path);
+                (answer, words, path)
+            };
+            assert_eq!(signed(&written), signed(&model));
+            let matched = |model: &[u8]| {
+                let mut words = words.clone();
+                let answer = match_name(model, &packet, &mut words);
+                (answer, words)
+            };
+            assert_eq!(matched(&written), matched(&model));
         }
     }
 }

@@ -35,11 +35,13 @@ fn cases_fit_their_form() {
                 model,
                 packet,
                 key,
+                words,
                 path,
             } =>
                 model.len() <= MAX_MODEL_FIELD
                     && name_fits(&packet)
                     && name_fits(&key)
+                    && words.len() <= MAX_WORDS
                     && path.len() <= MAX_PATH_WORDS,
             _ => false,
         });
@@ -90,7 +92,7 @@ fn every_answer_comes_up_often() {
             .map(move |number| format!("{letter} refused {number}"))
     }));
     expected.extend([21, 22, 23, 27].map(|number| format!("M refused {number}")));
-    let with_names = (21..=26).chain([34]);
+    let with_names = (21..=27).chain([34]);
     expected.extend(with_names.map(|number| format!("S refused {number}")));
     for kind in &expected {
         assert!(

@@ -11,9 +11,9 @@ fn judged(model: &[u8]) -> String {
     verdict(model).to_string()
 }
 
-/// The match call's answer, and its buffer of 256 words that were all 9.
+/// The match call's answer, and its buffer of 384 words that were all 9.
 fn matched(model: &[u8], name: &[u8]) -> (MatchAnswer, Vec<u32>) {
-    let mut words = vec![9; 256];
+    let mut words = vec![9; 384];
     let answer = match_name(model, name, &mut words);
     (answer, words)
 }
@@ -25,7 +25,7 @@ fn model_a() {
     assert_eq!(verdict(&model), Verdict::Accepted(1));
     assert_eq!(
         matched(&model, &empty),
-        (MatchAnswer::Match { node: 0, bound: 0 }, vec![0; 256])
+        (MatchAnswer::Match { node: 0, bound: 0 }, vec![0; 384])
     );
     assert_eq!(sign(&model, &empty, &empty), SignAnswer::NotAllowed);
 }
@@ -33,8 +33,8 @@ fn model_a() {
 fn assert_answers_of_b(model: &[u8]) {
     let (a, b, empty) = (hex(NAME_A), hex(NAME_B), hex(EMPTY_NAME));
     assert_eq!(verdict(model), Verdict::Accepted(2));
-    let mut words = vec![0; 256];
-    words[..2].copy_from_slice(&[2, 3]);
+    let mut words = vec![0; 384];
+    words[..3].copy_from_slice(&[2, 3, 1]);
     assert_eq!(
         matched(model, &a),
         (MatchAnswer::Match { node: 1, bound: 1 }, words)
@@ -65,7 +65,7 @@ fn model_b_with_an_optional_and_a_critical_element() {
     assert_eq!(judged(&model), "refused 2 17");
     let (answer, words) = matched(&model, &hex(NAME_A));
     assert_eq!(answer.to_string(), "refused 2 17");
-    assert_eq!(words, [9; 256]);
+    assert_eq!(words, [9; 384]);
     assert_eq!(
         sign(&model, &hex(NAME_A), &hex(NAME_A)).to_string(),
         "refused 2 17"
@@ -106,8 +106,8 @@ fn tags_128_and_129() {
     let (answer, words) = matched(&with_tag(128), &name("/a"));
     assert_eq!(answer, MatchAnswer::Match { node: 0, bound: 1 });
     assert_eq!(
-        (words[..254].iter().sum::<u32>(), &words[254..]),
-        (0, &[2, 3][..])
+        (words[..381].iter().sum::<u32>(), &words[381..]),
+        (0, &[2, 3, 1][..])
     );
     assert_eq!(judged(&with_tag(129)), "refused 5 0");
     assert_eq!(judged(&with_tag(0)), "refused 5 0");
@@ -145,23 +145,23 @@ fn components_32_and_33() {
 }
 
 #[test]
-fn words_255_and_256() {
+fn words_383_and_384() {
     let model = hex(MODEL_B);
-    let mut short = vec![9; 255];
+    let mut short = vec![9; 383];
     assert_eq!(
         match_name(&model, &hex(NAME_A), &mut short).to_string(),
         "refused 27 0"
     );
-    assert_eq!(short, [9; 255]);
-    let mut long = vec![9; 258];
+    assert_eq!(short, [9; 383]);
+    let mut long = vec![9; 386];
     assert_eq!(
         match_name(&model, &hex(NAME_A), &mut long).to_string(),
         "match 1 1"
     );
-    assert_eq!((&long[..4], &long[256..]), (&[2, 3, 0, 0][..], &[9, 9][..]));
+    assert_eq!((&long[..4], &long[384..]), (&[2, 3, 1, 0][..], &[9, 9][..]));
     assert_eq!(
         matched(&model, &name("/a/b")),
-        (MatchAnswer::NoMatch, vec![9; 256])
+        (MatchAnswer::NoMatch, vec![9; 384])
     );
 }
 
@@ -190,7 +190,7 @@ fn names_of_1024_and_1025_bytes() {
     let (good, bad) = (of_length(1_024), of_length(1_025));
     let (answer, words) = matched(&model, &good);
     assert_eq!(answer, MatchAnswer::Match { node: 1, bound: 1 });
-    assert_eq!(words[..2], [4, 1_020]);
+    assert_eq!(words[..3], [4, 1_020, 1]);
     assert_eq!(matched(&model, &bad).0.to_string(), "refused 21 0");
     assert_eq!(
         matched(&model, &vec![0; 1_025]).0.to_string(),

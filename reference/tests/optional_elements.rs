@@ -75,17 +75,24 @@ struct Answers {
     matched: String,
     words: Vec<u32>,
     signed: String,
+    signed_words: Vec<u32>,
     path: Vec<u16>,
     /// With all words of the path, and with those that the names need.
     followed: [String; 2],
 }
 
+/// What is in the binding buffers before the calls.
+fn lent_words() -> Vec<u32> {
+    (1_000..1_390).collect()
+}
+
 /// The answers of all calls, with this many words for a path.
 fn all_answers(model: &[u8], packet: &[u8], key: &[u8], room: u16) -> Answers {
-    let mut words: Vec<u32> = (1_000..1_260).collect();
+    let mut words = lent_words();
     let matched = match_name(model, packet, &mut words).to_string();
+    let mut signed_words = lent_words();
     let mut path: Vec<u16> = (2_000..2_000 + room).collect();
-    let signed = sign(model, packet, key, &mut path).to_string();
+    let signed = sign(model, packet, key, &mut signed_words, &mut path).to_string();
     // untouched words stand behind the path
     let is_untouched = |(place, &word): (usize, &u16)| word == 2_000 + place as u16;
     let written = path.iter().enumerate().position(is_untouched);
@@ -96,6 +103,7 @@ fn all_answers(model: &[u8], packet: &[u8], key: &[u8], room: u16) -> Answers {
         matched,
         words,
         signed,
+        signed_words,
         path,
         followed,
     }
@@ -110,6 +118,7 @@ fn a_model_and_its_bare_model_answer_alike() {
             packet,
             key,
             path,
+            ..
         } = gen::case(SEED, index)
         else {
             continue;
@@ -172,8 +181,9 @@ fn a_critical_element_in_any_gap_is_refused_by_all_calls_where_it_starts() {
                 Answers {
                     verdict: expected.clone(),
                     matched: expected.clone(),
-                    words: (1_000..1_260).collect(),
+                    words: lent_words(),
                     signed: expected.clone(),
+                    signed_words: lent_words(),
                     path: vec![2_000, 2_001, 2_002],
                     followed: [expected.clone(), expected],
                 },

@@ -6,9 +6,9 @@ mod build;
 use std::collections::BTreeMap;
 use std::ops::ControlFlow;
 
-use build::PATH_ROOM;
-use lvs_reference::answers::{visit_pairs, Pair};
-use lvs_reference::cases::{Case, MAX_MODEL_FIELD, MAX_NAME_FIELD, MAX_PATH_WORDS};
+use build::{BINDING_ROOM, PATH_ROOM};
+use lvs_reference::answers::visit_allowed;
+use lvs_reference::cases::{Case, MAX_MODEL_FIELD, MAX_NAME_FIELD, MAX_PATH_WORDS, MAX_WORDS};
 use lvs_reference::gen::{self, path_case};
 use lvs_reference::model::Model;
 use lvs_reference::names::{Name, Role};
@@ -20,33 +20,40 @@ const CASES: u64 = 10_000;
 
 /// The fields of a case with a path.
 struct Fields {
-    is_followed: bool,
     model: Vec<u8>,
     packet: Vec<u8>,
     key: Vec<u8>,
+    /// The binding buffer of a signing call.
+    words: Option<Vec<u32>>,
     path: Vec<u16>,
 }
 
 impl Fields {
     fn of(case: Case) -> Option<Self> {
-        let is_followed = matches!(case, Case::Follow { .. });
         match case {
             Case::Follow {
                 model,
                 packet,
                 key,
                 path,
-            }
-            | Case::Sign {
+            } => Some(Fields {
                 model,
                 packet,
                 key,
+                words: None,
+                path,
+            }),
+            Case::Sign {
+                model,
+                packet,
+                key,
+                words,
                 path,
             } => Some(Fields {
-                is_followed,
                 model,
                 packet,
                 key,
+                words: Some(words),
                 path,
             }),
             _ => None,
@@ -61,8 +68,13 @@ impl Fields {
         follow(&self.model, &self.packet, &self.key, path)
     }
 
-    fn sign(&self, words: &mut [u16]) -> SignAnswer {
-        sign(&self.model, &self.packet, &self.key, words)
+    /// The signing answer when there is room for the bindings.
+    fn sign(&self, path: &mut [u16]) -> SignAnswer {
+        self.sign_with(&mut [0; BINDING_ROOM], path)
+    }
+
+    fn sign_with(&self, words: &mut [u32], path: &mut [u16]) -> SignAnswer {
+        sign(&self.model, &self.packet, &self.key, words, path)
     }
 
     /// The model and the names, if none of them is refused.
@@ -74,13 +86,23 @@ impl Fields {
     }
 }
 
+/// The nodes and the path of a pair.
+#[derive(Debug)]
+struct Pair {
+    packet: usize,
+    key: usize,
+    path: Vec<u16>,
+}
+
 /// All allowed pairs, in their order.
-fn allowed_pairs(model: &Model, packet: &Name, key: &Name) -> Vec<Pair> {
+fn allowed_pairs<'n>(model: &Model, packet: &Name<'n>, key: &Name<'n>) -> Vec<Pair> {
     let mut pairs = Vec::new();
-    let _ = visit_pairs::<()>(model, packet, key, &mut |pair| {
-        if pair.is_allowed(model) {
-            pairs.push(pair);
-        }
+    let _ = visit_allowed::<()>(model, packet, key, &mut |pair| {
+        pairs.push(Pair {
+            packet: pair.packet,
+            key: pair.key,
+            path: pair.trace.path.clone(),
+        });
         ControlFlow::Continue(())
     });
     pairs
@@ -102,6 +124,7 @@ fn cases_fit_their_form() {
         assert!(case.model.len() <= MAX_MODEL_FIELD);
         assert!(case.packet.len() <= MAX_NAME_FIELD);
         assert!(case.key.len() <= MAX_NAME_FIELD);
+        assert!(case.words.unwrap_or_default().len() <= MAX_WORDS);
         assert!(case.path.len() <= MAX_PATH_WORDS);
     }
 }
@@ -167,9 +190,12 @@ fn every_answer_comes_up_often() {
     let mut counts = BTreeMap::new();
     for index in 0..4 * CASES {
         let case = Fields::generated(9, index);
-        let line = match case.is_followed {
-            true => format!("P {}", case.follow(&case.path)),
-            false => format!("S {}", case.sign(&mut case.path.clone())),
+        let line = match case.words.clone() {
+            None => format!("P {}", case.follow(&case.path)),
+            Some(mut words) => {
+                let answer = case.sign_with(&mut words, &mut case.path.clone());
+                format!("S {answer}")
+            }
         };
         let kind = match line.split(' ').collect::<Vec<_>>()[..] {
             [letter, "refused", number, _] => format!("{letter} refused {number}"),
@@ -184,7 +210,7 @@ fn every_answer_comes_up_often() {
         let refusals = (1..=12).chain(21..=26);
         expected.extend(refusals.map(|number| format!("{letter} refused {number}")));
     }
-    expected.push("S refused 34".into());
+    expected.extend([27, 34].map(|number| format!("S refused {number}")));
     for kind in &expected {
         let least = if kind.starts_with('P') { 30 } else { 1 };
         let is_often = counts.get(kind).is_some_and(|&count| count >= least);
@@ -326,7 +352,7 @@ fn traits(case: &Fields) -> Vec<&'static str> {
 fn paths_of_every_kind_come_up_often() {
     let mut counts: BTreeMap<&str, usize> = BTreeMap::new();
     let cases = (0..CASES).map(|index| Fields::generated(12, index));
-    for case in cases.filter(|case| case.is_followed) {
+    for case in cases.filter(|case| case.words.is_none()) {
         for name in traits(&case) {
             *counts.entry(name).or_default() += 1;
         }

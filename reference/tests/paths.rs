@@ -12,7 +12,8 @@ const LENT: u16 = 0xABCD;
 /// The signing call's answer with this many words, and the words after it.
 fn signed_bytes(model: &[u8], packet: &[u8], key: &[u8], room: usize) -> (String, Vec<u16>) {
     let mut words = vec![LENT; room];
-    let answer = sign(model, packet, key, &mut words).to_string();
+    let buffer = &mut [0; BINDING_ROOM];
+    let answer = sign(model, packet, key, buffer, &mut words).to_string();
     (answer, words)
 }
 

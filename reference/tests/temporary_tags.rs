@@ -7,17 +7,17 @@ use build::*;
 use lvs_reference::{describe, find_certificate, match_name, verdict};
 
 /// The match call's answer and the words up to the last Tag asked for; the
-/// others must be 0, and those behind the first 256 kept.
+/// others must be 0, and those behind the first 384 kept.
 fn matched(model: &[u8], name: &[u8], tags: usize) -> (String, Vec<u32>) {
-    let mut words = vec![9; 260];
+    let mut words = vec![9; 388];
     let answer = match_name(model, name, &mut words).to_string();
-    assert_eq!(words[256..], [9; 4]);
+    assert_eq!(words[384..], [9; 4]);
     if answer.starts_with("match") {
-        assert!(words[2 * tags..256].iter().all(|&word| word == 0));
+        assert!(words[3 * tags..384].iter().all(|&word| word == 0));
     } else {
-        assert_eq!(words, [9; 260]);
+        assert_eq!(words, [9; 388]);
     }
-    words.truncate(2 * tags);
+    words.truncate(3 * tags);
     (answer, words)
 }
 
@@ -40,7 +40,7 @@ fn model_b_with_count_1_and_0() {
     let (a, b) = (hex(NAME_A), hex(NAME_B));
     let named = model_b_counting("69 01 01");
     assert_eq!(named, hex(MODEL_B));
-    assert_eq!(matched(&named, &a, 1), ("match 1 1".into(), vec![2, 3]));
+    assert_eq!(matched(&named, &a, 1), ("match 1 1".into(), vec![2, 3, 1]));
     assert_eq!(signed(&named, "/a", "/a"), "allowed 1 1");
     assert_eq!(signed(&named, "/a", "/b"), "not allowed");
     assert_eq!(signed(&named, "/a", "/"), "not allowed");
@@ -103,7 +103,7 @@ fn a_temporary_tag_twice_in_one_name() {
     let named = twice(1, 1);
     assert_eq!(
         matched(&named, &name("/a/a"), 1),
-        ("match 2 1".into(), vec![2, 3])
+        ("match 2 1".into(), vec![2, 3, 1])
     );
     assert_eq!(answer(&named, "/a/b"), "no match");
     let temporary = twice(0, 1);
@@ -164,7 +164,7 @@ fn named_and_temporary_tags_in_one_name() {
             node(5, Some(4), &[signer(5)]),
         ],
     );
-    let words = vec![13, 4, 5, 3, 0, 0];
+    let words = vec![13, 4, 1, 5, 3, 1, 0, 0, 0];
     let expected = ("match 5 2".to_string(), words);
     assert_eq!(matched(&model, &name("/x/b/yyy/dd/b"), 3), expected);
     assert_eq!(answer(&model, "/x/b/x/dd/c"), "no match");
@@ -194,7 +194,7 @@ fn going_back_over_a_temporary_edge() {
     );
     assert_eq!(
         matched(&model, &name("/a/b/a"), 1),
-        ("match 5 1".into(), vec![2, 3])
+        ("match 5 1".into(), vec![2, 3, 1])
     );
     assert_eq!(answer(&model, "/a/b/c"), "no match");
     assert_eq!(answer(&model, "/a/a/b"), "no match");

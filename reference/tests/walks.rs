@@ -7,9 +7,9 @@ use lvs_reference::{match_name, verdict, Verdict};
 
 /// The match call's answer and the words up to the last Tag asked for.
 fn matched(model: &[u8], name: &[u8], tags: usize) -> (String, Vec<u32>) {
-    let mut words = vec![0; 256];
+    let mut words = vec![0; BINDING_ROOM];
     let answer = match_name(model, name, &mut words).to_string();
-    words.truncate(2 * tags);
+    words.truncate(3 * tags);
     (answer, words)
 }
 
@@ -35,7 +35,7 @@ fn bindings_of_a_failed_branch_are_taken_away() {
             node(4, Some(2), &[]),
         ],
     );
-    let expected = ("match 4 2".to_string(), vec![5, 3, 2, 3]);
+    let expected = ("match 4 2".to_string(), vec![5, 3, 1, 2, 3, 1]);
     assert_eq!(matched(&model, &name("/x/y"), 2), expected);
 }
 
@@ -103,7 +103,7 @@ fn two_matches_at_one_node_are_two() {
     );
     assert_eq!(
         matched(&model, &name("/a"), 2),
-        ("match 1 1".into(), vec![2, 3, 0, 0])
+        ("match 1 1".into(), vec![2, 3, 1, 0, 0, 0])
     );
     assert_eq!(signed(&model, "/a", "/k/a"), "allowed 1 3");
     assert_eq!(signed(&model, "/a", "/k/b"), "not allowed");
@@ -140,7 +140,7 @@ fn an_option_naming_the_edge_s_own_bound_tag_may_hold() {
     );
     assert_eq!(
         matched(&model, &name("/a/a"), 1),
-        ("match 2 1".into(), vec![2, 3])
+        ("match 2 1".into(), vec![2, 3, 1])
     );
     assert_eq!(answer(&model, "/a/b"), "no match");
 }
@@ -157,7 +157,7 @@ fn mutual_parents_are_accepted_and_walked() {
     assert_eq!(verdict(&model), Verdict::Accepted(2));
     assert_eq!(
         matched(&model, &name("/a/b/a"), 2),
-        ("match 1 2".into(), vec![2, 3, 5, 3])
+        ("match 1 2".into(), vec![2, 3, 1, 5, 3, 1])
     );
     assert_eq!(answer(&model, "/a/b/b"), "no match");
     assert_eq!(answer(&model, &"/a".repeat(32)), "match 0 2");
@@ -316,7 +316,7 @@ fn a_bound_tag_keeps_its_first_place() {
             node(3, Some(2), &[]),
         ],
     );
-    let expected = ("match 3 1".to_string(), vec![0, 0, 0, 0, 5, 4]);
+    let expected = ("match 3 1".to_string(), vec![0, 0, 0, 0, 0, 0, 5, 4, 1]);
     assert_eq!(matched(&model, &name("/k/xx/xx"), 3), expected);
 }
 

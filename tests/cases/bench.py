@@ -29,10 +29,10 @@ def cases():
         yield what, verdict(model), "accepted 2"
         yield f"{what}: /a at node 1, Tag 1 at 2, length 3", match(model, SLASH_A, OLD), matched(1, (1, 2, 3))
         yield f"{what}: the empty name at node 0", match(model, EMPTY, OLD), matched(0)
-        yield f"{what}: (/a, /a)", sign(model, SLASH_A, SLASH_A), allowed(1, 1, 0, 0)
+        yield f"{what}: (/a, /a)", sign(model, SLASH_A, SLASH_A), allowed(1, 1, 0, 0, packet=[(1, 2, 3)])
         yield f"{what}: (/a, /b)", sign(model, SLASH_A, SLASH_B), NOT_ALLOWED
         yield f"{what}: (/a, empty)", sign(model, SLASH_A, EMPTY), NOT_ALLOWED
-        yield f"{what}: (/a, bytes 07 01)", sign(model, SLASH_A, bytes.fromhex("07 01")), path_kept("refused 25 0")
+        yield f"{what}: (/a, bytes 07 01)", sign(model, SLASH_A, bytes.fromhex("07 01")), both_kept("refused 25 0")
     for what, model, answer in (
         ("B with a critical element", CRITICAL, "refused 2 17"),
         ("another version, and cut", OTHER_VERSION_CUT, "refused 3 0"),
@@ -44,4 +44,4 @@ def cases():
     ):
         yield what, verdict(model), answer
         yield what, match(model, SLASH_A, OLD), kept(answer)
-        yield what, sign(model, SLASH_A, SLASH_A), path_kept(answer)
+        yield what, sign(model, SLASH_A, SLASH_A), both_kept(answer)

@@ -3,7 +3,7 @@ import pathlib
 import sys
 
 sys.path.append(str(pathlib.Path(__file__).resolve().parents[2] / "tools"))
-from name import name as path, number, request, shortest_integer  # path: a name from its URI
+from name import elements as elements_of, name as path, number, request, shortest_integer  # path: a name from its URI
 
 # types of elements (docs/format.md, 3.1)
 NAME, GENERIC = 0x07, 0x08
@@ -185,24 +185,32 @@ def verdict(of):
     return b"V" + field(of)
 
 
+# what is lent to a call holds these words before it: no word that a call writes is like one of them, and some take all of their bytes
+
+
+def old_words(count):
+    return [4294967295 - i if i % 20 == 0 else 2000 + i for i in range(count)]
+
+
+OLD = old_words(384)  # binding words
+OLD_PATH = [65535 - i for i in range(20)]  # no Node has so many edges
+
+
+def words_field(words, size):
+    return field(b"".join(word.to_bytes(size, "big") for word in words))
+
+
 def match(of, packet, words=()):
-    return b"M" + field(of) + field(packet) + field(b"".join(word.to_bytes(4, "big") for word in words))
+    return b"M" + field(of) + field(packet) + words_field(words, 4)
 
 
-OLD_PATH = [65535 - i for i in range(20)]  # what a path's words hold before a call: no Node has so many edges
+def sign(of, packet, key, path_words=OLD_PATH, words=OLD):
+    return b"S" + field(of) + field(packet) + field(key) + words_field(words, 4) + words_field(path_words, 2)
 
 
-def path_field(words):
-    return field(b"".join(word.to_bytes(2, "big") for word in words))
-
-
-def sign(of, packet, key, words=OLD_PATH):
-    return b"S" + field(of) + field(packet) + field(key) + path_field(words)
-
-
-def follow(of, packet, key, words):
+def follow(of, packet, key, path_words):
     """Whether a path is one of an allowed pair."""
-    return b"P" + field(of) + field(packet) + field(key) + path_field(words)
+    return b"P" + field(of) + field(packet) + field(key) + words_field(path_words, 2)
 
 
 def suggest(of, packet, *entries):
@@ -231,15 +239,40 @@ def words_line(words):
     return "".join(f" {word}" for word in words)
 
 
-OLD = [4294967295 - i for i in range(256)]  # what a buffer of 256 words holds before a call
+PACKET_ORIGIN, KEY_ORIGIN = 1, 2
+
+
+def binding_words(packet=(), key=()):
+    """The words of all Tags, from (Tag, start, length) of each that is first bound in the packet name, and of each in the key name."""
+    words = [0] * 384
+    for origin, bound in (PACKET_ORIGIN, packet), (KEY_ORIGIN, key):
+        for n, start, length in bound:
+            words[3 * n - 3 : 3 * n] = start, length, origin
+    return words
+
+
+def first_places(of, tags, named=128):
+    """(Tag, start, length) of each Tag that a name binds. `tags` has the Tag of the edge that each component crosses, None for a ValueEdge."""
+    ((_, inside),) = elements_of(of)
+    found, start = {}, len(of) - len(inside)
+    for (typ, data), n in zip(elements_of(inside), tags, strict=True):
+        size = len(component(data, typ))
+        if n is not None and n <= named:
+            found.setdefault(n, (start, size))
+        start += size
+    return [(n, *place) for n, place in found.items()]
+
+
+def pair_bindings(packet, packet_tags, key, key_tags, named=128):
+    """What the two names of an allowed pair bind, as `allowed` takes it: a Tag that the packet binds is not the key's."""
+    by_packet = first_places(packet, packet_tags, named)
+    before = {n for n, *_ in by_packet}
+    return dict(packet=by_packet, key=[place for place in first_places(key, key_tags, named) if place[0] not in before])
 
 
 def matched(at, *bound, behind=()):
-    """The line of a match: its node, then (Tag, start, length) of each bound Tag, all other words 0, and the words after the first 256."""
-    words = [0] * 256
-    for n, start, length in bound:
-        words[2 * n - 2 : 2 * n] = start, length
-    return f"match {at} {len(bound)}" + words_line([*words, *behind])
+    """The line of a match: its node, then (Tag, start, length) of each bound Tag, all other words 0, and the words after the first 384."""
+    return f"match {at} {len(bound)}" + words_line([*binding_words(bound), *behind])
 
 
 def kept(answer, words=OLD):
@@ -247,17 +280,19 @@ def kept(answer, words=OLD):
     return answer + words_line(words)
 
 
-def allowed(packet, key, *edges, words=OLD_PATH):
-    """The line of an allowed pair: its nodes, the ordinals of the edges to the packet's and then to the key's, and the words behind these."""
-    return f"allowed {packet} {key}" + words_line([*edges, *words[len(edges) :]])
+def allowed(packet_node, key_node, *edges, packet=(), key=(), path_words=OLD_PATH, words=OLD):
+    """The line of an allowed pair: its nodes, the words of what each name binds and those behind them, then the path: the ordinals of the edges
+    to the packet's node and to the key's, and the words behind these."""
+    after = [*binding_words(packet, key), *words[384:], *edges, *path_words[len(edges) :]]
+    return f"allowed {packet_node} {key_node}" + words_line(after)
 
 
-def path_kept(answer, words=OLD_PATH):
-    """The line of another answer: all words as they were."""
-    return kept(answer, words)
+def both_kept(answer, path_words=OLD_PATH, words=OLD):
+    """The line of another answer of a signing call: all words as they were."""
+    return answer + words_line([*words, *path_words])
 
 
-NOT_ALLOWED = path_kept("not allowed")
+NOT_ALLOWED = both_kept("not allowed")
 
 
 def refused_at(of):

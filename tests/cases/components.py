@@ -271,7 +271,7 @@ def dates():
 
 # through the calls: how a component was compared is not seen in any answer
 
-WORDS = list(range(1, 257))  # what a buffer holds before a match
+WORDS = list(range(1, 385))  # what a buffer holds before a match
 
 
 def variants(size):
@@ -307,22 +307,14 @@ def pairs():
             yield f"{short} and {long} bytes, {what}", component(a), component(b), False
 
 
-def places(components):
-    """Start and size of each component in the name made of them."""
-    start = len(name(*components)) - len(b"".join(components))
-    for each in components:
-        yield start, len(each)
-        start += len(each)
-
-
 def must(term):
     return constraint(option(term))
 
 
 def match_forms(a, b):
-    """Where a walk compares a with b: (what, model, components of the name, the Tags that they are bound to). Component n leads to Node n."""
-    yield "a ValueEdge", model(node(0, value_edge(1, a)), node(1, parent(0))), [b], []
-    yield "a Tag twice", tree([(1,), (1,), ()]), [a, b], [1]
+    """Where a walk compares a with b: (what, model, components of the name, the Tags of their edges). Component n leads to Node n."""
+    yield "a ValueEdge", model(node(0, value_edge(1, a)), node(1, parent(0))), [b], [None]
+    yield "a Tag twice", tree([(1,), (1,), ()]), [a, b], [1, 1]
     yield "a Value option", tree([(1, must(value(a))), ()]), [b], [1]
     yield "a Tag option", tree([(1,), (2, must(tag(1))), ()]), [a, b], [1, 2]
     yield "$eq of a Value", tree([(1, must(call("$eq", value(a)))), ()]), [b], [1]
@@ -333,8 +325,7 @@ def match_line(holds, components, tags, at=None):
     """`at` is the node, where it is not the number of components."""
     if not holds:
         return kept("no match", WORDS)
-    bound = [(n, *place) for n, place in zip(tags, places(components))]
-    return matched(len(components) if at is None else at, *bound)
+    return matched(len(components) if at is None else at, *first_places(name(*components), tags))
 
 
 def matches():
@@ -344,22 +335,34 @@ def matches():
 
 
 def sign_forms(a, b):
-    """Where a signing call compares them: (what, model, packet name, key name, the nodes and the path if they are equal)."""
-    yield "a ValueEdge for both", model(node(0, value_edge(1, a)), node(1, parent(0), signer(1))), name(a), name(b), (1, 1, 0, 0)
-    yield "a Tag in packet and key", B, name(a), name(b), (1, 1, 0, 0)
-    yield "a Tag twice in the key", tree(["p", (3,)], [(1,), (1,), ()]), name("p"), name(a, b), (1, 3, 0, 1, 0)
-    yield "a Tag option, bound by the packet", tree(["p", (1,), (3,)], [(2, must(tag(1))), ()]), name("p", a), name(b), (2, 3, 0, 0, 1)
-    yield "$eq of a Tag, bound by the packet", tree(["p", (1,), (3,)], [(2, must(call("$eq", tag(1)))), ()]), name("p", a), name(b), (2, 3, 0, 0, 1)
-    yield "a Value option in the key", tree(["p", (2,)], [(1, must(value(a))), ()]), name("p"), name(b), (1, 2, 0, 1)
-    yield "$eq of a Value in the key", tree(["p", (2,)], [(1, must(call("$eq", value(a)))), ()]), name("p"), name(b), (1, 2, 0, 1)
+    """Where a signing call compares them: (what, model, names, the Tags of their edges, the nodes and the path if they are equal)."""
+    by_value = model(node(0, value_edge(1, a)), node(1, parent(0), signer(1)))
+    yield "a ValueEdge for both", by_value, (name(a), name(b)), ([None], [None]), (1, 1, 0, 0)
+    yield "a Tag in packet and key", B, (name(a), name(b)), ([1], [1]), (1, 1, 0, 0)
+    twice = tree(["p", (3,)], [(1,), (1,), ()])
+    yield "a Tag twice in the key", twice, (name("p"), name(a, b)), ([None], [1, 1]), (1, 3, 0, 1, 0)
+    for form, term in ("a Tag option", tag(1)), ("$eq of a Tag", call("$eq", tag(1))):
+        of = tree(["p", (1,), (3,)], [(2, must(term)), ()])
+        yield f"{form}, bound by the packet", of, (name("p", a), name(b)), ([None, 1], [2]), (2, 3, 0, 0, 1)
+        of = tree(["p", (3,)], [(1,), (2, must(term)), ()])
+        yield f"{form}, bound by the key", of, (name("p"), name(a, b)), ([None], [1, 2]), (1, 3, 0, 1, 0)
+    for form, term in ("a Value option", value(a)), ("$eq of a Value", call("$eq", value(a))):
+        of = tree(["p", (2,)], [(1, must(term)), ()])
+        yield f"{form} in the key", of, (name("p"), name(b)), ([None], [1]), (1, 2, 0, 1)
+
+
+def sign_line(holds, names, tags, found):
+    if not holds:
+        return NOT_ALLOWED
+    return allowed(*found, **pair_bindings(names[0], tags[0], names[1], tags[1]))
 
 
 def signings():
     for what, one, other, is_equal in pairs():
-        for form, of, packet, key, found in sign_forms(one, other):
-            yield f"{form}: {what}", sign(of, packet, key), allowed(*found) if is_equal else NOT_ALLOWED
-        for form, of, packet, key, _ in sign_forms(other, one) if not is_equal else ():
-            yield f"{form}: {what}, exchanged", sign(of, packet, key), NOT_ALLOWED
+        for form, of, names, tags, found in sign_forms(one, other):
+            yield f"{form}: {what}", sign(of, *names), sign_line(is_equal, names, tags, found)
+        for form, of, names, *_ in sign_forms(other, one) if not is_equal else ():
+            yield f"{form}: {what}, exchanged", sign(of, *names), NOT_ALLOWED
 
 
 def suggestions():
@@ -383,7 +386,7 @@ def one_of_many():
         by_any = model(node(0, pattern_edge(1, 1, constraint(*(option(value(each)) for each in components)))), node(1, parent(0)), patterns=1)
         for i, each in enumerate(components, 1):
             what = f"variant {i} of {size} bytes"
-            yield f"{what}, ValueEdges", match(by_value, name(each), WORDS), match_line(True, [each], [], i)
+            yield f"{what}, ValueEdges", match(by_value, name(each), WORDS), match_line(True, [each], [None], i)
             yield f"{what}, PatternEdges", match(by_option, name(each), WORDS), match_line(True, [each], [1], i)
             yield f"{what}, options", match(by_any, name(each), WORDS), match_line(True, [each], [1])
         for what, each in ("another byte", component(changed(some(size), size // 2, by=2))), ("another type", component(some(size), 10)):
@@ -402,8 +405,10 @@ def same_types():
         for b_type, b_value in kinds:
             b, holds = component(b_value, b_type), a_type == b_type
             what = f"{a[:8].hex()} and {b[:8].hex()}"
-            yield f"$eq_type of a Tag: {what}", sign(of_tag, name("p", a), name(b)), allowed(2, 3, 0, 0, 1) if holds else NOT_ALLOWED
-            yield f"$eq_type of a Value: {what}", sign(of_value, name("p"), name(b)), allowed(1, 2, 0, 1) if holds else NOT_ALLOWED
+            names = name("p", a), name(b)
+            yield f"$eq_type of a Tag: {what}", sign(of_tag, *names), sign_line(holds, names, ([None, 1], [2]), (2, 3, 0, 0, 1))
+            names = name("p"), name(b)
+            yield f"$eq_type of a Value: {what}", sign(of_value, *names), sign_line(holds, names, ([None], [1]), (1, 2, 0, 1))
 
 
 def longest_names():
@@ -414,7 +419,8 @@ def longest_names():
             for form, of, components, tags in match_forms(a, b):
                 if len(components) == 1:
                     yield f"{form}: 1016 bytes, {what}", match(of, name(b), WORDS), match_line(is_itself, components, tags)
-            yield f"a Tag in packet and key: 1016 bytes, {what}", sign(B, name(a), name(b)), allowed(1, 1, 0, 0) if is_itself else NOT_ALLOWED
+            line = allowed(1, 1, 0, 0, packet=[(1, 4, 1020)]) if is_itself else NOT_ALLOWED
+            yield f"a Tag in packet and key: 1016 bytes, {what}", sign(B, name(a), name(b)), line
             yield f"the packet's own behind it: 1016 bytes, {what}", suggest(B, name(a), name(b), name(a)), f"certificate {0 if is_itself else 1}"
     value = some(506)
     for what, other in ("itself", value), *((f"place {i}", changed(value, i)) for i in (0, 253, 505)), ("a byte less", value[1:]):
@@ -432,11 +438,13 @@ def date_names():
         keys = [name("key", day) for day in days]
         for i, day in enumerate(days):
             what = f"1{i}{end[:7]}, {len(day)} bytes"
-            yield f"the edge of day {what}", match(each_day, name(day), WORDS), match_line(True, [day], [], i + 1)
+            yield f"the edge of day {what}", match(each_day, name(day), WORDS), match_line(True, [day], [None], i + 1)
             yield f"the key of day {what}", suggest(parts_of_days, name("part", day), *keys), f"certificate {i}"
             yield f"no key of day {what}", suggest(parts_of_days, name("part", day), *keys[:i], *keys[i + 1 :]), "none"
             for j in (i, (i + 1) % 10):
-                yield f"day {what} by 1{j}", sign(parts_of_days, name("part", day), keys[j]), allowed(2, 4, 0, 0, 1, 0) if i == j else NOT_ALLOWED
+                names = name("part", day), keys[j]
+                line = sign_line(i == j, names, ([None, 1], [None, 1]), (2, 4, 0, 0, 1, 0))
+                yield f"day {what} by 1{j}", sign(parts_of_days, *names), line
         other = component(f"20261120{end}")
         yield f"a day without an edge, {len(other)} bytes", match(each_day, name(other), WORDS), kept("no match", WORDS)
 

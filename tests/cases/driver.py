@@ -18,7 +18,7 @@ DAY, NEXT_DAY = component("20261116"), component("20261117")
 COMPARE = compare(DAY, NEXT_DAY)
 COMPARE_LINE = "different 1\n"
 SIGN, FOLLOW = sign(B, SLASH_A, SLASH_A, [7, 8, 9]), follow(B, SLASH_A, SLASH_A, [0, 0])
-SIGN_LINE, FOLLOW_LINE = "allowed 1 1 0 0 9\n", "accepted\n"
+FOLLOW_LINE = "accepted\n"
 LONGEST = component(some(65532))  # 65,536 bytes: a header of 4 and the value
 
 # fields that are not exactly one component
@@ -66,6 +66,14 @@ NO_COMPONENTS = {
 }
 
 
+def signed(path_words=OLD_PATH, words=OLD):
+    """The line of /a by /a."""
+    return allowed(1, 1, 0, 0, packet=[(1, 2, 3)], path_words=path_words, words=words) + "\n"
+
+
+SIGN_LINE = signed([7, 8, 9])
+
+
 def runs():
     yield "no case", b"", ""
     for of in (GOOD, WORDS, SIGN, FOLLOW, WRITE, DESCRIBE, SUGGEST, COMPARE):
@@ -78,7 +86,7 @@ def runs():
     yield "a model of 65,536 bytes", verdict(longest) + GOOD, "refused 1 0\n" + LINE
     yield "a model of 65,537 bytes", verdict(longest + b"\x00") + GOOD, "broken\n"
     yield "a name of 4,097 bytes", match(B, bytes(4097), OLD) + GOOD, "broken\n"
-    yield "a key name of 4,096 bytes", sign(B, SLASH_A, bytes(4096), [7]) + GOOD, "refused 24 0 7\n" + LINE
+    yield "a key name of 4,096 bytes", sign(B, SLASH_A, bytes(4096), [7], [6]) + GOOD, "refused 24 0 6 7\n" + LINE
     yield "a key name of 4,097 bytes", sign(B, SLASH_A, bytes(4097)) + GOOD, "broken\n"
     yield "1,024 words", match(A, SLASH_A, [7] * 1024) + GOOD, kept("no match", [7] * 1024) + "\n" + LINE
     yield "1,025 words", match(A, SLASH_A, [7] * 1025) + GOOD, "broken\n"
@@ -123,64 +131,127 @@ def runs():
         yield what, of + GOOD, "broken\n"
     # what an earlier case left behind in the driver is no part of a list
     yield "a short list after a long one", suggest(B, SLASH_A, *[SLASH_A] * 64) + suggest(B, SLASH_A, SLASH_B), "certificate 0\nnone\n"
-    for part in path_fields, many_paths, component_fields, long_components, many_comparisons:
+    for part in path_fields, binding_fields, many_words, component_fields, long_components, many_comparisons:
         yield from part()
+
+
+# where a field of words is at fault the case is, whatever the model and the names are
+NAMES_OF_CASES = (
+    ("good names", B, SLASH_A, SLASH_A),
+    ("empty names", A, EMPTY, EMPTY),
+    ("a refused model", b"", SLASH_A, SLASH_A),
+    ("a refused packet name", B, b"", SLASH_A),
+    ("a refused key name", B, SLASH_A, b""),
+)
 
 
 def path_fields():
     """The fields of `S` and `P`, each behind a good case: a path has at most 2,048 words, of two bytes each."""
     words = [60000 - i for i in range(2048)]
-    yield "2,048 path words", sign(B, SLASH_A, SLASH_A, words) + GOOD, allowed(1, 1, 0, 0, words=words) + "\n" + LINE
-    yield "2,048 path words, not allowed", sign(A, SLASH_A, SLASH_A, words) + GOOD, kept("not allowed", words) + "\n" + LINE
+    yield "2,048 path words", sign(B, SLASH_A, SLASH_A, words) + GOOD, signed(words) + LINE
+    yield "2,048 path words, not allowed", sign(A, SLASH_A, SLASH_A, words) + GOOD, both_kept("not allowed", words) + "\n" + LINE
     yield "2,048 path words to follow", follow(B, SLASH_A, SLASH_A, [0] * 2048) + GOOD, "no\n" + LINE
-    yield "no path words", sign(B, SLASH_A, SLASH_A, []) + follow(B, SLASH_A, SLASH_A, []) + GOOD, "refused 34 0\nno\n" + LINE
-    yield "no path words, none needed", sign(A, EMPTY, EMPTY, []) + follow(A, EMPTY, EMPTY, []) + GOOD, "not allowed\nno\n" + LINE
-    # the longest of all four
-    longest = sign(bytes(65536), bytes(4096), bytes(4096), words) + follow(bytes(65536), bytes(4096), bytes(4096), words)
-    yield "the longest fields", longest + GOOD, kept("refused 1 0", words) + "\nrefused 1 0\n" + LINE
-    for letter, line in (b"S", SIGN_LINE), (b"P", FOLLOW_LINE):
+    no_words = sign(B, SLASH_A, SLASH_A, []) + follow(B, SLASH_A, SLASH_A, [])
+    yield "no path words", no_words + GOOD, kept("refused 34 0") + "\nno\n" + LINE
+    none_needed = sign(A, EMPTY, EMPTY, []) + follow(A, EMPTY, EMPTY, [])
+    yield "no path words, none needed", none_needed + GOOD, kept("not allowed") + "\nno\n" + LINE
+    # the longest of all
+    longest = bytes(65536), bytes(4096), bytes(4096), words
+    line = both_kept("refused 1 0", words, old_words(1024)) + "\nrefused 1 0\n"
+    yield "the longest fields", sign(*longest, old_words(1024)) + follow(*longest) + GOOD, line + LINE
+    for letter, between, line in (b"S", words_field(OLD, 4), SIGN_LINE), (b"P", b"", FOLLOW_LINE):
         good = SIGN if letter == b"S" else FOLLOW
 
         def case(of, packet, key, data):
-            return letter + field(of) + field(packet) + field(key) + field(data)
+            return letter + field(of) + field(packet) + field(key) + between + field(data)
 
-        # where the path is at fault the case is, whatever the model and the names are
-        for what, of, packet, key in (
-            ("good names", B, SLASH_A, SLASH_A),
-            ("empty names", A, EMPTY, EMPTY),
-            ("a refused model", b"", SLASH_A, SLASH_A),
-            ("a refused packet name", B, b"", SLASH_A),
-            ("a refused key name", B, SLASH_A, b""),
-        ):
+        for what, *given in NAMES_OF_CASES:
             for size in (1, 3, 5, 127, 4095, 4097, 4098, 4099, 65536):
-                yield f"{letter}, {what}, a path of {size} bytes", good + case(of, packet, key, bytes(size)) + GOOD, line + "broken\n"
-        names = letter + field(B) + field(SLASH_A) + field(SLASH_A)
+                yield f"{letter}, {what}, a path of {size} bytes", good + case(*given, bytes(size)) + GOOD, line + "broken\n"
+        before = letter + field(B) + field(SLASH_A) + field(SLASH_A) + between
         for what, data in (
             ("a model of 65,537 bytes", case(bytes(65537), SLASH_A, SLASH_A, bytes(4))),
             ("a packet name of 4,097 bytes", case(B, bytes(4097), SLASH_A, bytes(4))),
             ("a key name of 4,097 bytes", case(B, SLASH_A, bytes(4097), bytes(4))),
-            ("no path", names),  # the next case's letter is in its length
-            ("a path of 2^31 bytes", names + b"\x80\x00\x00\x00"),
-            ("a path of 2^32 - 1 bytes", names + b"\xff" * 4),
-            ("a path of 2^32 - 2 bytes", names + b"\xff\xff\xff\xfe"),
-            ("a path of two bytes, one missing", names + b"\x00\x00\x00\x02\x00"),
+            ("no path", before),  # the next case's letter is in its length
+            ("a path of 2^31 bytes", before + b"\x80\x00\x00\x00"),
+            ("a path of 2^32 - 1 bytes", before + b"\xff" * 4),
+            ("a path of 2^32 - 2 bytes", before + b"\xff\xff\xff\xfe"),
+            ("a path of two bytes, one missing", before + b"\x00\x00\x00\x02\x00"),
         ):
             after = b"" if what.endswith("missing") else GOOD
             yield f"{letter}, {what}", good + data + after, line + "broken\n"
-        yield f"{letter}, a fifth field", good + field(b"") + GOOD, line + "broken\n"
+        yield f"{letter}, a field more", good + field(b"") + GOOD, line + "broken\n"
         yield f"{letter}, two cases", good + good + GOOD, line * 2 + LINE
 
 
-def many_paths():
+def binding_fields():
+    """The binding words of `S`, at most 1,024 of four bytes each, before the path; each behind a good case."""
+    most, path_most = old_words(1024), [60000 - i for i in range(2048)]
+    yield "1,024 binding words", sign(B, SLASH_A, SLASH_A, words=most) + GOOD, signed(words=most) + LINE
+    both = path_most, most
+    yield "1,024 binding words, 2,048 path words", sign(B, SLASH_A, SLASH_A, *both) + GOOD, signed(*both) + LINE
+    yield "the same, not allowed", sign(B, SLASH_A, SLASH_B, *both) + GOOD, both_kept("not allowed", *both) + "\n" + LINE
+    yield "no binding words", sign(B, SLASH_A, SLASH_A, [7, 8], []) + GOOD, "refused 27 0 7 8\n" + LINE
+    yield "neither", sign(B, SLASH_A, SLASH_A, [], []) + sign(A, EMPTY, EMPTY, [], []) + GOOD, "refused 27 0\n" * 2 + LINE
+
+    def case(of, packet, key, size, path_size=4):
+        return b"S" + field(of) + field(packet) + field(key) + field(bytes(size)) + field(bytes(path_size))
+
+    for what, *given in NAMES_OF_CASES:
+        for size in (1, 2, 3, 5, 1535, 1537, 1538, 4095, 4097, 4098, 4099, 4100, 65536):
+            yield f"{what}, binding words of {size} bytes", SIGN + case(*given, size) + GOOD, SIGN_LINE + "broken\n"
+        for size, path_size in (1536, 1), (1536, 4095), (1536, 4097), (1536, 4098), (4096, 4097), (0, 1), (3, 1), (4, 3), (4100, 4100), (2, 2):
+            sizes = f"binding words of {size} bytes, a path of {path_size}"
+            yield f"{what}, {sizes}", SIGN + case(*given, size, path_size) + GOOD, SIGN_LINE + "broken\n"
+    names = b"S" + field(B) + field(SLASH_A) + field(SLASH_A)
+    bindings, path_field = words_field(OLD, 4), words_field([7, 8, 9], 2)
+    for what, data in (
+        ("no binding words and no path", names + GOOD),  # the next case's letter is in a length
+        ("no path", names + bindings + GOOD),
+        ("no binding words", names + path_field + GOOD),  # the path has 6 bytes, which are no words of 4
+        ("no binding words, a path of two words", names + words_field([7, 8], 2) + GOOD),  # these are one word of 4, and no path follows
+        ("no binding words, an empty path", names + field(b"") + GOOD),
+        ("the path first", names + path_field + bindings + GOOD),
+        ("a third field of words", names + bindings + path_field + bindings + GOOD),
+        ("binding words of 2^31 bytes", names + b"\x80\x00\x00\x00" + path_field + GOOD),
+        ("binding words of 2^32 - 4 bytes", names + b"\xff\xff\xff\xfc" + path_field + GOOD),
+        ("binding words of 2^32 - 1 bytes", names + b"\xff" * 4 + path_field + GOOD),
+        ("cut before the binding words", names),
+        ("cut within their length", names + bindings[:2]),
+        ("cut behind their length", names + bindings[:4]),
+        ("cut within a binding word", names + bindings[:-1]),
+        ("cut between two binding words", names + bindings[:-4]),
+        ("cut between the two fields", names + bindings),
+        ("cut within the path's length", names + bindings + path_field[:3]),
+        ("cut behind the path's length", names + bindings + path_field[:4]),
+        ("cut within the path", names + bindings + path_field[:-2]),
+    ):
+        line = SIGN_LINE + (signed([7, 8, 9]) if what.startswith("a third") else "") + "broken\n"
+        yield f"binding words: {what}", SIGN + data, line
+
+
+def many_words():
     """What a case has left behind is no part of the next."""
-    long, short = sign(B, SLASH_A, SLASH_A, [5] * 2048), sign(B, SLASH_A, SLASH_B, [6])
-    yield "few words after many", long + short + SIGN, allowed(1, 1, 0, 0, words=[5] * 2048) + "\nrefused 34 0 6\n" + SIGN_LINE
-    yield "no words after many", long + sign(A, EMPTY, EMPTY, []), allowed(1, 1, 0, 0, words=[5] * 2048) + "\nnot allowed\n"
+    long, short = sign(B, SLASH_A, SLASH_A, [5] * 2048, [4] * 1024), sign(B, SLASH_A, SLASH_B, [6])
+    long_line = signed([5] * 2048, [4] * 1024)
+    yield "few words after many", long + short + SIGN, long_line + both_kept("refused 34 0", [6]) + "\n" + SIGN_LINE
+    yield "no path words after many", long + sign(A, EMPTY, EMPTY, []), long_line + kept("not allowed") + "\n"
+    yield "no binding words after many", long + sign(B, SLASH_A, SLASH_A, [6], []) + SIGN, long_line + "refused 27 0 6\n" + SIGN_LINE
+    few = sign(B, SLASH_A, SLASH_A, [5, 6], OLD[:383]) + match(B, SLASH_A, OLD[:383])
+    line = both_kept("refused 27 0", [5, 6], OLD[:383]) + "\n" + kept("refused 27 0", OLD[:383]) + "\n"
+    yield "383 binding words after many", long + few + SIGN, long_line + line + SIGN_LINE
+    # the words that an allowed pair or a match wrote, and a case that keeps its own
+    other = sign(B, SLASH_A, SLASH_B, [3] * 2, [9] * 384)
+    line = both_kept("not allowed", [3] * 2, [9] * 384) + "\n"
+    yield "not allowed after allowed", SIGN + other + SIGN, SIGN_LINE + line + SIGN_LINE
+    yield "not allowed after a match", WORDS + other + WORDS, WORDS_LINE + line + WORDS_LINE
+    yield "no match after allowed", SIGN + match(A, SLASH_A, [9] * 384), SIGN_LINE + kept("no match", [9] * 384) + "\n"
     several = b"".join(follow(B, SLASH_A, SLASH_A, [0] * size) for size in (3, 2, 1, 2, 0))
     yield "paths to follow, one after the other", several, "no\naccepted\nno\naccepted\nno\n"
     yield "a path to follow after a longer one", follow(B, SLASH_A, SLASH_A, [0] * 2048) + FOLLOW, "no\n" + FOLLOW_LINE
     yield "2,000 cases with paths", (SIGN + FOLLOW) * 2000, (SIGN_LINE + FOLLOW_LINE) * 2000
-    yield "100 cases with 2,048 words", long * 100, (allowed(1, 1, 0, 0, words=[5] * 2048) + "\n") * 100
+    yield "100 cases with 1,024 and 2,048 words", long * 100, long_line * 100
 
 
 def component_fields():

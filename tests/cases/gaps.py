@@ -58,13 +58,13 @@ KNOWN = [faulty(element(typ)) for typ in (NAME, GENERIC)]  # types 7 and 8 are n
 def answered(what, of):
     yield what, verdict(of), "accepted 3"
     yield what, match(of, PACKET, OLD), matched(2, (1, 5, 3))
-    yield what, sign(of, PACKET, PACKET), allowed(2, 2, 0, 0, 0, 0)
+    yield what, sign(of, PACKET, PACKET), allowed(2, 2, 0, 0, 0, 0, packet=[(1, 5, 3)])
 
 
 def malformed(what, of):
     yield what, verdict(of), refused_at(of)
     yield what, match(of, PACKET, OLD), kept(refused_at(of))
-    yield what, sign(of, PACKET, PACKET), path_kept(refused_at(of))
+    yield what, sign(of, PACKET, PACKET), both_kept(refused_at(of))
 
 
 def cases():

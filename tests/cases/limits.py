@@ -9,7 +9,7 @@ def all_three(what, of, answer):
     """A model that is refused is refused by all three calls, and the buffers are kept."""
     yield what, verdict(of), answer
     yield what, match(of, A_NAME, OLD), kept(answer)
-    yield what, sign(of, A_NAME, A_NAME), path_kept(answer)
+    yield what, sign(of, A_NAME, A_NAME), both_kept(answer)
 
 
 def star(count):
@@ -26,7 +26,7 @@ def nodes():
 
 
 def tags():
-    """Tag 128 is the last, whatever holds it: its words are 254 and 255."""
+    """Tag 128 is the last, whatever holds it: its words are the last three of 384."""
 
     def with_edge(n, *constraints, **rest):
         return model(node(0, pattern_edge(1, n, *constraints)), node(1, parent(0), signer(1)), patterns=128, **rest)
@@ -51,7 +51,7 @@ def tags():
     ):
         yield f"Tag 128 in {where}", verdict(of(128)), "accepted 2"
         yield f"Tag 128 in {where}", match(of(128), A_NAME, OLD), matched(1, (bound, 2, 3))
-        yield f"Tag 128 in {where}", sign(of(128), A_NAME, A_NAME), allowed(1, 1, 0, 0)
+        yield f"Tag 128 in {where}", sign(of(128), A_NAME, A_NAME), allowed(1, 1, 0, 0, packet=[(bound, 2, 3)])
         for n in (0, 129, 256 + 1, (1 << 32) + 1):
             yield from all_three(f"Tag {n} in {where}", of(n), "refused 5 0")
 
@@ -71,33 +71,46 @@ def components():
     yield "32 components", match(LOOP, a_name(32), OLD), matched(0)
     yield "31 components", match(LOOP, a_name(31), OLD), matched(1)
     yield "33 components", match(LOOP, a_name(33), OLD), kept("refused 23 0")
-    yield "32 and 32 components", sign(LOOP, a_name(32), a_name(32), room), allowed(0, 0, *[0] * 64, words=room)
-    yield "33 components in the packet name", sign(LOOP, a_name(33), a_name(32), room), path_kept("refused 23 0", room)
-    yield "33 components in the key name", sign(LOOP, a_name(32), a_name(33), room), path_kept("refused 26 0", room)
-    yield "33 in both", sign(LOOP, a_name(33), a_name(33), room), path_kept("refused 23 0", room)
+    yield "32 and 32 components", sign(LOOP, a_name(32), a_name(32), room), allowed(0, 0, *[0] * 64, path_words=room)
+    yield "33 components in the packet name", sign(LOOP, a_name(33), a_name(32), room), both_kept("refused 23 0", room)
+    yield "33 components in the key name", sign(LOOP, a_name(32), a_name(33), room), both_kept("refused 26 0", room)
+    yield "33 in both", sign(LOOP, a_name(33), a_name(33), room), both_kept("refused 23 0", room)
     # malformed is tested before the number of components
     yield "33 components and a broken one", match(LOOP, name(*["a"] * 33, b"\x08"), OLD), kept("refused 22 0")
-    yield "the same in the key name", sign(LOOP, a_name(1), name(*["a"] * 33, b"\x08")), path_kept("refused 25 0")
+    yield "the same in the key name", sign(LOOP, a_name(1), name(*["a"] * 33, b"\x08")), both_kept("refused 25 0")
 
 
 def words():
-    old = list(range(1000, 1257))
-    yield "255 words", match(B, A_NAME, old[:255]), kept("refused 27 0", old[:255])
-    yield "256 words", match(B, A_NAME, old[:256]), matched(1, (1, 2, 3))
-    yield "257 words", match(B, A_NAME, old), matched(1, (1, 2, 3), behind=[1256])
-    yield "no words", match(B, A_NAME), "refused 27 0"
-    yield "1,024 words", match(B, A_NAME, range(1024)), matched(1, (1, 2, 3), behind=range(256, 1024))
-    yield "no match keeps 257 words", match(A, A_NAME, old), kept("no match", old)
-    # the buffer is tested last
-    yield "255 words and no match", match(A, A_NAME, old[:255]), kept("refused 27 0", old[:255])
-    yield "255 words and a malformed name", match(B, b"", old[:255]), kept("refused 22 0", old[:255])
-    yield "255 words and a malformed model", match(B[:-1], A_NAME, old[:255]), kept("refused 2 25", old[:255])
+    """384 binding words, three for each Tag: of a match, and of a signing call. Those behind them stay."""
+    old, place = old_words(1024), (1, 2, 3)
+    for size in (0, 1, 255, 256, 257, 382, 383):
+        few = old[:size]
+        yield f"{size} words", match(B, A_NAME, few), kept("refused 27 0", few)
+        yield f"{size} words to sign with", sign(B, A_NAME, A_NAME, words=few), both_kept("refused 27 0", words=few)
+    for size in (384, 385, 386, 390, 1023, 1024):
+        lent = old[:size]
+        yield f"{size} words", match(B, A_NAME, lent), matched(1, place, behind=lent[384:])
+        yield f"{size} words, no match", match(A, A_NAME, lent), kept("no match", lent)
+        yield f"{size} words to sign with", sign(B, A_NAME, A_NAME, words=lent), allowed(1, 1, 0, 0, packet=[place], words=lent)
+        yield f"{size} words, not allowed", sign(A, A_NAME, A_NAME, words=lent), both_kept("not allowed", words=lent)
+    # the model and the names are tested before the buffer, the path behind it; the walk comes last
+    for size in (256, 383):
+        few = old[:size]
+        yield f"{size} words and no match", match(A, A_NAME, few), kept("refused 27 0", few)
+        yield f"{size} words and a malformed name", match(B, b"", few), kept("refused 22 0", few)
+        yield f"{size} words and a malformed model", match(B[:-1], A_NAME, few), kept("refused 2 25", few)
+        yield f"{size} words and not allowed", sign(A, A_NAME, A_NAME, words=few), both_kept("refused 27 0", words=few)
+        yield f"{size} words and a malformed packet name", sign(B, b"", A_NAME, words=few), both_kept("refused 22 0", words=few)
+        yield f"{size} words and a malformed key name", sign(B, A_NAME, b"", words=few), both_kept("refused 25 0", words=few)
+        yield f"{size} words and a malformed model to sign by", sign(B[:-1], A_NAME, A_NAME, words=few), both_kept("refused 2 25", words=few)
+        yield f"{size} words and a path of 1", sign(B, A_NAME, A_NAME, [7], few), both_kept("refused 27 0", [7], few)
+    yield "384 words and a path of 1", sign(B, A_NAME, A_NAME, [7]), both_kept("refused 34 0", [7])
 
 
 def model_bytes():
     yield "32,768 bytes", verdict(padded(B, 32768)), "accepted 2"
     yield "32,768 bytes", match(padded(B, 32768), A_NAME, OLD), matched(1, (1, 2, 3))
-    yield "32,768 bytes", sign(padded(B, 32768), A_NAME, A_NAME), allowed(1, 1, 0, 0)
+    yield "32,768 bytes", sign(padded(B, 32768), A_NAME, A_NAME), allowed(1, 1, 0, 0, packet=[(1, 2, 3)])
     yield from all_three("32,769 bytes", padded(B, 32769), "refused 1 0")
     # 1 is tested before 2
     yield "32,768 malformed bytes", verdict(bytes(32768)), "refused 2 0"
@@ -111,15 +124,15 @@ def name_bytes():
     assert len(longest) == 1024 and len(longer) == 1025
     yield "a name of 1,024 bytes", match(B, longest, OLD), matched(1, (1, 4, 1020))
     yield "a name of 1,025 bytes", match(B, longer, OLD), kept("refused 21 0")
-    yield "packet and key of 1,024 bytes", sign(B, longest, longest), allowed(1, 1, 0, 0)
-    yield "a packet name of 1,025 bytes", sign(B, longer, longest), path_kept("refused 21 0")
-    yield "a key name of 1,025 bytes", sign(B, longest, longer), path_kept("refused 24 0")
-    yield "both", sign(B, longer, longer), path_kept("refused 21 0")
+    yield "packet and key of 1,024 bytes", sign(B, longest, longest), allowed(1, 1, 0, 0, packet=[(1, 4, 1020)])
+    yield "a packet name of 1,025 bytes", sign(B, longer, longest), both_kept("refused 21 0")
+    yield "a key name of 1,025 bytes", sign(B, longest, longer), both_kept("refused 24 0")
+    yield "both", sign(B, longer, longer), both_kept("refused 21 0")
     # the length is tested before anything is read
     yield "1,024 bytes of noise", match(B, bytes(1024), OLD), kept("refused 22 0")
     yield "1,025 bytes of noise", match(B, bytes(1025), OLD), kept("refused 21 0")
-    yield "1,025 bytes of noise as a key", sign(B, longest, bytes(1025)), path_kept("refused 24 0")
-    yield "a malformed packet name and a long key name", sign(B, b"", longer), path_kept("refused 22 0")
+    yield "1,025 bytes of noise as a key", sign(B, longest, bytes(1025)), both_kept("refused 24 0")
+    yield "a malformed packet name and a long key name", sign(B, b"", longer), both_kept("refused 22 0")
     yield "4,096 bytes, the driver's limit", match(B, bytes(4096), OLD), kept("refused 21 0")
 
 
@@ -142,7 +155,7 @@ def integers():
     for size in (1, 2, 4, 8):
         yield f"integers of {size} bytes", verdict(sized(size)), "accepted 2"
         yield f"integers of {size} bytes", match(sized(size), A_NAME, OLD), matched(1, (1, 2, 3))
-        yield f"integers of {size} bytes", sign(sized(size), A_NAME, A_NAME), allowed(1, 1, 0, 0)
+        yield f"integers of {size} bytes", sign(sized(size), A_NAME, A_NAME), allowed(1, 1, 0, 0, packet=[(1, 2, 3)])
     for size in (3, 5, 6, 7, 9):
         yield f"integers of {size} bytes", verdict(sized(size)), "refused 2 6"  # StartId is the first
     # no bit of a large integer is lost

@@ -83,7 +83,7 @@ def room():
         need = n + m
         for size in sorted({0, 1, n, m, abs(need - 1), need, need + 1, need + 2, 64, 65, 2048}):
             words = WORDS[:size]
-            line = path_kept("refused 34 0", words) if size < need else allowed(n, m, *rungs(n, m), words=words)
+            line = both_kept("refused 34 0", words) if size < need else allowed(n, m, *rungs(n, m), path_words=words)
             yield f"{n} and {m} components, {size} words", sign(LADDER, a_name(n), a_name(m), words), line
 
 
@@ -112,7 +112,7 @@ def unsigned():
         need = count(packet, key)
         for size in sorted({0, need // 2, abs(need - 1), need, need + 1, need + 20, 2048}):
             words = WORDS[:size]
-            line = path_kept("refused 34 0" if size < need else "not allowed", words)
+            line = both_kept("refused 34 0" if size < need else "not allowed", words)
             yield f"{what}, {size} words", sign(of, packet, key, words), line
 
 
@@ -158,23 +158,24 @@ def model_faults():
 
 
 def names_first():
-    """The packet name's refusals, then the key name's, then 34. A path of another length refuses nothing."""
+    """The packet name's refusals, then the key name's, then 27 and 34. A path of another length refuses nothing."""
     for what, packet, key, answer in name_faults():
-        for size in (0, 2, 33):
-            words = WORDS[:size]
-            yield f"{what}, {size} words", sign(B, packet, key, words), path_kept(answer, words)
+        for size, bindings in (0, 383), (2, 0), (33, 384):
+            words = WORDS[:size], OLD[:bindings]
+            yield f"{what}, {size} words, {bindings} binding words", sign(B, packet, key, *words), both_kept(answer, *words)
         for words in ([], [0, 0], [0] * 34):
             yield f"{what}, path {text(words)}", follow(B, packet, key, words), answer
-    yield "a cut packet name, 2,048 words", sign(B, b"\x07", SLASH_A, WORDS), path_kept("refused 22 0", WORDS)
+    yield "a cut packet name, 2,048 words", sign(B, b"\x07", SLASH_A, WORDS), both_kept("refused 22 0", WORDS)
 
 
 def models_first():
     """And the model's before all of these; a long one with fewer of them."""
-    asked = list(product([(SLASH_A, SLASH_A), (EMPTY, EMPTY), (b"", SLASH_A), (SLASH_A, a_name(33)), (bytes(1025), b"")], (0, 1, 2)))
+    names = (SLASH_A, SLASH_A), (EMPTY, EMPTY), (b"", SLASH_A), (SLASH_A, a_name(33)), (bytes(1025), b"")
+    asked = list(product(names, [(0, 383), (1, 0), (2, 384)]))
     for what, of, answer in model_faults():
-        for (packet, key), size in asked[1::5] if len(of) > 32768 else asked:
-            words, which = WORDS[:size], f"{packet[:5].hex()} by {key[:5].hex()}"
-            yield f"{what}, {which}, {size} words", sign(of, packet, key, words), path_kept(answer, words)
+        for (packet, key), (size, bindings) in asked[1::5] if len(of) > 32768 else asked:
+            words, which = (WORDS[:size], OLD[:bindings]), f"{packet[:5].hex()} by {key[:5].hex()}"
+            yield f"{what}, {which}, {size} words, {bindings} binding words", sign(of, packet, key, *words), both_kept(answer, *words)
             yield f"{what}, {which}, a path of {size}", follow(of, packet, key, [0] * size), answer
         yield f"{what}, a path of 2,048", follow(of, SLASH_A, SLASH_A, WORDS), answer
 
@@ -266,7 +267,7 @@ def optional():
     for i in range(gap_count):
         spare = faulty(bytes.fromhex(CRITICAL[i % len(CRITICAL)]))
         bad = list(put_in(of, spare))[i]
-        yield f"{spare.hex()} in gap {i}", sign(bad, name("v0"), name("v0"), [7]), kept(refused_at(bad), [7])
+        yield f"{spare.hex()} in gap {i}", sign(bad, name("v0"), name("v0"), [7], [8, 9]), both_kept(refused_at(bad), [7], [8, 9])
         for size in (2, 3):
             yield f"{spare.hex()} in gap {i}, path of {size}", follow(bad, name("v0"), name("v0"), [0] * size), refused_at(bad)
 
@@ -335,8 +336,11 @@ def signers():
         of = model(node(0, value_edge(1, "a"), pattern_edge(2, 1)), second, third, patterns=1)
         # by pattern the packet binds a, so that b is then no key
         for key, pairs in (SLASH_A, listed), (SLASH_B, [pair for pair in listed if pair == (1, 2)]):
-            what = f"{listed} listed, /a by {key[-1:].decode()}"
-            yield what, sign(of, SLASH_A, key), allowed(*pairs[0], *(n - 1 for n in pairs[0])) if pairs else NOT_ALLOWED
+            what, line = f"{listed} listed, /a by {key[-1:].decode()}", NOT_ALLOWED
+            if pairs:
+                tags = [[None, 1][n - 1] for n in pairs[0]]
+                line = allowed(*pairs[0], *(n - 1 for n in pairs[0]), **pair_bindings(SLASH_A, tags[:1], key, tags[1:]))
+            yield what, sign(of, SLASH_A, key), line
             for p, k in every:
                 yield from followed(what, of, SLASH_A, key, [p - 1, k - 1], (p, k) in pairs)
     # by which Node it is signed, not by whom that is signed
@@ -400,8 +404,10 @@ def tags():
         of = model(node(0, *edges(1)), node(1, parent(0), *edges(2)), node(2, parent(1), signer(2)), patterns=named)
         for packet, key in ("ab", "ba"), ("aa", "ab"), ("bc", "cd"):
             good = [words for words in several if agree(packet + key, words, named)]
-            what = f"/{'/'.join(packet)} by /{'/'.join(key)}, {named} Tags named"
-            line = allowed(2, 2, *good[0]) if good else NOT_ALLOWED
+            what, line = f"/{'/'.join(packet)} by /{'/'.join(key)}, {named} Tags named", NOT_ALLOWED
+            if good:
+                crossed = [word or None for word in good[0]]  # the Tag of each edge
+                line = allowed(2, 2, *good[0], **pair_bindings(name(*packet), crossed[:2], name(*key), crossed[2:], named))
             yield what, sign(of, name(*packet), name(*key)), line
             for words in several:
                 yield from followed(what, of, name(*packet), name(*key), list(words), words in good)
@@ -533,15 +539,15 @@ def empty_names():
     for packet, key, found in (EMPTY, EMPTY, (0, 0)), (EMPTY, SLASH_A, (0, 1, 0)), (SLASH_A, EMPTY, (1, 0, 0)), (SLASH_A, SLASH_A, None):
         what, need = f"{packet.hex()} by {key.hex()}", count(packet, key)
         for size in range(need, need + 4):
-            line = allowed(*found, words=WORDS[:size]) if found else path_kept("not allowed", WORDS[:size])
+            line = allowed(*found, path_words=WORDS[:size]) if found else both_kept("not allowed", WORDS[:size])
             yield f"{what}, {size} words", sign(listing, packet, key, WORDS[:size]), line
         for size in range(4):
             yield from followed(what, listing, packet, key, [0] * size, found is not None and size == need)
         yield from none_accepted(what, listing, packet, key, ([1] * (need + 1), [65535], [0, 65535]))
     # from another Node than the first
     second = model(node(0, value_edge(1, "a")), node(1, parent(0), value_edge(2, "b"), signer(1)), node(2, parent(1), signer(1)), start=1)
-    yield "the start is Node 1", sign(second, EMPTY, EMPTY, []), "allowed 1 1"
-    yield "the start is Node 1, /b by the empty name", sign(second, SLASH_B, EMPTY, [7]), "allowed 2 1 0"
+    yield "the start is Node 1", sign(second, EMPTY, EMPTY, []), allowed(1, 1, path_words=[])
+    yield "the start is Node 1, /b by the empty name", sign(second, SLASH_B, EMPTY, [7]), allowed(2, 1, 0, path_words=[7])
     for packet, key, words, holds in (
         (EMPTY, EMPTY, [], True),
         (SLASH_B, EMPTY, [0], True),
@@ -557,23 +563,24 @@ def empty_names():
 
 
 def edges_of(case, line):
-    """The path that an allowed case's line gives."""
-    _, packet, key, _ = fields(case)
-    return [int(word) for word in line.split()[3 : 3 + count(packet, key)]]
+    """The path that an allowed case's line gives, behind its binding words."""
+    _, packet, key, words, _ = fields(case)
+    first = 3 + len(words) // 4
+    return [int(word) for word in line.split()[first : first + count(packet, key)]]
 
 
 def in_other_tables():
-    """(what, case, its line, how many words of its path are to be changed, with 0 for all)."""
+    """(what, case, its line, how many words of its path are to be changed, with 0 for all). Following does not refuse with 27 or 34."""
     for table, several in (bench, 0), (limits, 2), (refusals, 2), (gaps, 1), (document_003, 0), (walks, 0), (temporary, 1):
         for what, case, line in table.cases():
-            if case[:1] == b"S":
+            if case[:1] == b"S" and not line.startswith(("refused 27 ", "refused 34 ")):
                 yield what, case, line, several
 
 
 def other_tables():
     """An allowed pair's path is accepted, and no longer with a word that is no edge, or a word more or less; for other pairs none is."""
     for i, (what, case, line, several) in enumerate(in_other_tables()):
-        of, packet, key, _ = fields(case)
+        of, packet, key, *_ = fields(case)
         if line.startswith("refused"):
             answer = " ".join(line.split()[:3])
             yield what, follow(of, packet, key, [0] * (i % 5)), answer
@@ -621,7 +628,7 @@ def by_hand():
     for what, case, _ in [*walks.cases(), *document_003.cases()]:
         if case[:1] == b"S" and what in NOT_FIRST:
             found += 1
-            of, packet, key, _ = fields(case)
+            of, packet, key, *_ = fields(case)
             for digits, line in NOT_FIRST[what].items():
                 yield f"{what}, path {digits}", follow(of, packet, key, list(map(int, digits))), line
     assert found == len(NOT_FIRST)

@@ -91,7 +91,7 @@ def good_models():
 # the calls
 
 A_NAME = path("/a")
-WORDS = [7, 8]  # 2 is tested before 27
+WORDS = [7, 8]  # 1 to 3 are tested before 27
 PATH_WORDS = [9]  # and before 34: two names of one component each take two
 
 
@@ -100,7 +100,7 @@ def by_match(what, of, answer):
 
 
 def by_sign(what, of, answer):
-    yield f"{what}, to be signed by", sign(of, A_NAME, A_NAME, PATH_WORDS), kept(answer, PATH_WORDS)
+    yield f"{what}, to be signed by", sign(of, A_NAME, A_NAME, PATH_WORDS, WORDS), both_kept(answer, PATH_WORDS, WORDS)
     yield f"{what}, to follow a path in", follow(of, A_NAME, A_NAME, PATH_WORDS), answer
 
 

@@ -313,15 +313,15 @@ def names():
         ("the name's type in 3 bytes", b"\xfd\x00\x07\x03\x08\x01a"),
     ):
         yield f"a packet name: {what}", match(B, data, OLD), kept("refused 22 0")
-        yield f"a packet name: {what}", sign(B, data, path("/a")), path_kept("refused 22 0")
-        yield f"a key name: {what}", sign(B, path("/a"), data), path_kept("refused 25 0")
-        yield f"both: {what}", sign(B, data, data), path_kept("refused 22 0")
+        yield f"a packet name: {what}", sign(B, data, path("/a")), both_kept("refused 22 0")
+        yield f"a key name: {what}", sign(B, path("/a"), data), both_kept("refused 25 0")
+        yield f"both: {what}", sign(B, data, data), both_kept("refused 22 0")
     # the element types of a model mean nothing in a name
     for typ in (1, 7, VALUE, 0x80, 0x81, VERSION, 65535):
         inside = component("a", typ)
         yield f"a component of type {typ}", match(B, name(inside), OLD), matched(1, (1, 2, len(inside)))
     # the model is tested before the names
-    yield "a malformed model and names", sign(B[:-1], b"", b""), path_kept("refused 2 25")
+    yield "a malformed model and names", sign(B[:-1], b"", b""), both_kept("refused 2 25")
 
 
 def cases():

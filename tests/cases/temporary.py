@@ -6,9 +6,9 @@ that of a walk in which every Tag binds. Only the count differs between them.
 from bench import B, EMPTY, SLASH_A, SLASH_B
 from build import *
 from certificates import TOO_MANY, as_lists, bad_entry, certificate, documents, many
-from document_003 import ADMIN, ADMIN_KEY, AUTHOR, AUTHOR_KEY, QUICK_CHECKS, QUICK_EDGES, ROOT, TUTORIAL_CHECKS, TUTORIAL_EDGES
-from document_003 import quick, tutorial, with_path
-from document_003 import T_ADMIN, T_ARTICLE, T_AUTHOR, T_ROOT, T_USER
+from document_003 import ADMIN, ADMIN_KEY, AUTHOR, AUTHOR_KEY, QUICK_CHECKS, QUICK_COUNT, QUICK_EDGES, ROOT
+from document_003 import T_ADMIN, T_ARTICLE, T_AUTHOR, T_ROOT, T_USER, TUTORIAL_CHECKS, TUTORIAL_COUNT, TUTORIAL_EDGES
+from document_003 import by_rules, check_line, quick, quick_tags, tutorial, tutorial_tags
 from gaps import CRITICAL, FULL, OPTIONAL, PACKET, put_everywhere, put_in
 from limits import A_NAME, all_three
 from refusals import FAULTS, refused, ring, ring_model
@@ -27,19 +27,12 @@ def with_count(of, count, size=None, before=b"", behind=b""):
 
 def walked(at, uri, tags, count):
     """The line of a match. `tags` has the Tag of each edge on the path, None for a ValueEdge: a named one is bound at its first place."""
-    bound, start = {}, 2
-    for text, n in zip(uri.split("/")[1:], tags, strict=True):
-        size = 2 + len(text)
-        if n is not None and n <= count:
-            bound.setdefault(n, (start, size))
-        start += size
-    assert start < 2 + 253  # the name's own header has 2 bytes
-    return matched(at, *((n, *place) for n, place in bound.items()))
+    return matched(at, *first_places(path(uri), tags, count))
 
 
-def allowed_if(holds, *found, **rest):
-    """`found` is the nodes and the path of an allowed pair."""
-    return allowed(*found, **rest) if holds else path_kept("not allowed", **rest)
+def allowed_if(holds, *found, path_words=OLD_PATH, **bound):
+    """`found` is the nodes and the path of an allowed pair; no Tag is bound where nothing is said of it."""
+    return allowed(*found, path_words=path_words, **bound) if holds else both_kept("not allowed", path_words)
 
 
 # the request's own example
@@ -63,7 +56,7 @@ def bench():
         of = with_count(B, count)
         yield f"B, count {count}", verdict(of), "accepted 2"
         yield f"B, count {count}: /a at node 1, Tag 1 at 2, length 3", match(of, SLASH_A, OLD), matched(1, (1, 2, 3))
-        yield f"B, count {count}: (/a, /a)", sign(of, SLASH_A, SLASH_A), allowed(1, 1, 0, 0)
+        yield f"B, count {count}: (/a, /a)", sign(of, SLASH_A, SLASH_A), allowed(1, 1, 0, 0, packet=[(1, 2, 3)])
         yield f"B, count {count}: (/a, /b)", sign(of, SLASH_A, SLASH_B), NOT_ALLOWED
         yield f"B, count {count}: (/a, empty)", sign(of, SLASH_A, EMPTY), NOT_ALLOWED
 
@@ -122,7 +115,7 @@ def repeated():
             yield f"twice in a name, count {count}: {what}", match(twice, packet, OLD), line
         for packet, key in ("/a/b", "/c/d"), ("/a/a", "/b/b"), ("/a/a", "/a/b"), ("/a/b", "/a/b"):
             yield f"twice in {packet} and {key}, count {count}", sign(twice, path(packet), path(key)), allowed_if(free, 2, 2, 0, 0, 0, 0)
-        yield f"twice in /a/a and /a/a, count {count}", sign(twice, AA, AA), allowed(2, 2, 0, 0, 0, 0)
+        yield f"twice in /a/a and /a/a, count {count}", sign(twice, AA, AA), allowed(2, 2, 0, 0, 0, 0, packet=[(1, 2, 3)][:count])
         apart = tree([(1,), "x", (1,), "x", (1,), ()], patterns=count)
         yield f"three times, count {count}: different components", match(apart, path("/a/x/b/x/c"), OLD), matched(5) if free else NO_MATCH
         line = walked(5, "/a/x/a/x/a", (1, None, 1, None, 1), count)
@@ -133,22 +126,23 @@ def repeated():
         yield f"32 times, count {count}: different components", match(itself, different, OLD), matched(0) if free else NO_MATCH
         yield f"32 times, count {count}: equal components", match(itself, equal, OLD), matched(0) if free else matched(0, (1, 2, 4))
         room = list(range(900, 968))  # four words more than two names of 32 components take
-        line = allowed_if(free, 0, 0, *[0] * 64, words=room)
+        line = allowed_if(free, 0, 0, *[0] * 64, path_words=room)
         yield f"32 times in both names, count {count}", sign(itself, different, different, room), line
-        line = allowed_if(free, 0, 0, *[0] * 33, words=room)
+        line = allowed_if(free, 0, 0, *[0] * 33, path_words=room)
         yield f"32 times, another key, count {count}", sign(itself, equal, path("/01"), room), line
-        line = allowed(0, 0, *[0] * 34, words=room)
+        line = allowed(0, 0, *[0] * 34, path_words=room, packet=[(1, 2, 4)][:count])
         yield f"32 times, the same key, count {count}", sign(itself, equal, path("/00/00"), room), line
         # rules p and q, whose keys are of rule k
         rules = tree(["p", (1,), (6,)], ["q", (1,), (6,)], ["k", (1,), ()], patterns=count)
         for packet, found in ("/p/a", (2, 6, 0, 0, 2, 0)), ("/q/a", (4, 6, 1, 0, 2, 0)):
             yield f"{packet} by /k/b, count {count}", sign(rules, path(packet), path("/k/b")), allowed_if(free, *found)
-            yield f"{packet} by /k/a, count {count}", sign(rules, path(packet), path("/k/a")), allowed(*found)
+            yield f"{packet} by /k/a, count {count}", sign(rules, path(packet), path("/k/a")), allowed(*found, packet=[(1, 5, 3)][:count])
             yield f"{packet} by /k, count {count}", sign(rules, path(packet), path("/k")), NOT_ALLOWED
         # a packet's Tag again in the key's name, twice there
         chain = tree(["p", (1,), (5,)], ["k", (1,), (1,), ()], patterns=count)
         for key, is_equal in ("/k/a/a", True), ("/k/a/b", False), ("/k/b/a", False), ("/k/b/b", False):
-            yield f"/p/a by {key}, count {count}", sign(chain, path("/p/a"), path(key)), allowed_if(free or is_equal, 2, 5, 0, 0, 1, 0, 0)
+            line = allowed_if(free or is_equal, 2, 5, 0, 0, 1, 0, 0, packet=[(1, 5, 3)][:count])
+            yield f"/p/a by {key}, count {count}", sign(chain, path("/p/a"), path(key)), line
 
 
 def mixed():
@@ -185,7 +179,8 @@ def mixed():
         for key in ("/k/a/x", "/k/a/y", "/k/b/x", "/k/b/y"):
             _, _, author, issuer = key.split("/")
             holds = (count < 1 or author == "a") and (count < 2 or issuer == "x")
-            yield f"/p/a/x by {key}, count {count}", sign(of, path("/p/a/x"), path(key)), allowed_if(holds, 3, 6, 0, 0, 0, 1, 0, 0)
+            line = allowed_if(holds, 3, 6, 0, 0, 0, 1, 0, 0, packet=[(1, 5, 3), (2, 8, 3)][:count])
+            yield f"/p/a/x by {key}, count {count}", sign(of, path("/p/a/x"), path(key)), line
 
 
 # Constraints
@@ -210,21 +205,25 @@ def named_in_terms():
             yield f"{what}: the edge's own Tag, count {count}", sign(own, A_NAME, A_NAME), NOT_ALLOWED
             again = tree([(1,), (1, naming(1)), (2,)], patterns=count)
             yield f"{what}: its own, crossed before, count {count}", match(again, AA, OLD), matched(2, (1, 2, 3)) if count else NO_MATCH
-            yield f"{what}: its own, crossed before, count {count}", sign(again, AA, AA), allowed_if(count, 2, 2, 0, 0, 0, 0)
+            line = allowed_if(count, 2, 2, 0, 0, 0, 0, packet=[(1, 2, 3)])
+            yield f"{what}: its own, crossed before, count {count}", sign(again, AA, AA), line
         for count in (0, 1, 2):
             # Tag 1 is crossed first; with count 1 the temporary edge behind it names a named Tag
             other = tree([(1,), (2, naming(1)), (2,)], patterns=count)
             line = walked(2, "/a/a", (1, 2), count) if count else NO_MATCH
             yield f"{what}: another edge's Tag, count {count}", match(other, AA, OLD), line
-            yield f"{what}: another edge's Tag, count {count}", sign(other, AA, AA), allowed_if(count, 2, 2, 0, 0, 0, 0)
+            line = allowed_if(count, 2, 2, 0, 0, 0, 0, packet=[(1, 2, 3), (2, 5, 3)][:count])
+            yield f"{what}: another edge's Tag, count {count}", sign(other, AA, AA), line
             # the other way round: with count 1 the named edge names a temporary Tag
             line = walked(2, "/a/a", (2, 1), count) if count == 2 else NO_MATCH
             higher = tree([(2,), (1, naming(2)), (2,)], patterns=count)
             yield f"{what}: a higher Tag, count {count}", match(higher, AA, OLD), line
-            yield f"{what}: a higher Tag, count {count}", sign(higher, AA, AA), allowed_if(count == 2, 2, 2, 0, 0, 0, 0)
+            line = allowed_if(count == 2, 2, 2, 0, 0, 0, 0, packet=[(2, 2, 3), (1, 5, 3)])
+            yield f"{what}: a higher Tag, count {count}", sign(higher, AA, AA), line
             # a Tag of the packet's name, named in the key's
             carried = tree(["p", (1,), (3,)], [(2, naming(1)), ()], patterns=count)
-            yield f"{what}: the packet's Tag, count {count}", sign(carried, path("/p/a"), A_NAME), allowed_if(count, 2, 3, 0, 0, 1)
+            line = allowed_if(count, 2, 3, 0, 0, 1, packet=[(1, 5, 3)], key=[(2, 2, 3)] if count == 2 else [])
+            yield f"{what}: the packet's Tag, count {count}", sign(carried, path("/p/a"), A_NAME), line
             # a Tag of no edge is unbound, whatever it is
             nowhere = tree([(1, naming(2)), (1,)], patterns=count)
             yield f"{what}: a Tag of no edge, count {count}", match(nowhere, A_NAME, OLD), NO_MATCH
@@ -279,7 +278,7 @@ def constraints():
         # in the key's walk
         key = tree(["p", (1,), (3,)], [(1, must_be("b")), ()], patterns=count)
         yield f"in the key, count {count}: /p/a by /b", sign(key, path("/p/a"), SLASH_B), allowed_if(free, 2, 3, 0, 0, 1)
-        yield f"in the key, count {count}: /p/b by /b", sign(key, path("/p/b"), SLASH_B), allowed(2, 3, 0, 0, 1)
+        yield f"in the key, count {count}: /p/b by /b", sign(key, path("/p/b"), SLASH_B), allowed(2, 3, 0, 0, 1, packet=[(1, 5, 3)][:count])
         yield f"in the key, count {count}: /p/a by /a", sign(key, path("/p/a"), SLASH_A), NOT_ALLOWED
 
 
@@ -322,15 +321,17 @@ def backtracking():
         # the first branch binds Tag 1 behind a temporary edge, the second needs it for another component
         of = tree([(2,), (1,), "x", ()], [(3,), (2,), (1,), ()], patterns=count)
         yield f"a binding of a failed branch, count {count}", match(of, path("/a/b/c"), OLD), walked(6, "/a/b/c", (3, 2, 1), count)
-        # the packet's first match binds Tag 1, where it is named; the second does not
+        # the packet's first match binds Tag 1, where it is named; the second does not, so that the key does
         of = tree([(1,), "p", (6,)], [(2,), "p", (6,)], ["k", (1,), ()], patterns=count)
-        line = allowed(2, 6, 1, 0, 0, 0) if count == 0 else allowed(4, 6, 2, 0, 0, 0)
-        yield f"the packet's second match, count {count}", sign(of, path("/a/p"), path("/k/b")), line
-        yield f"the packet's first match, count {count}", sign(of, path("/a/p"), path("/k/a")), allowed(2, 6, 1, 0, 0, 0)
+        second = allowed(4, 6, 2, 0, 0, 0, packet=[(2, 2, 3)] if count > 1 else [], key=[(1, 5, 3)])
+        yield f"the packet's second match, count {count}", sign(of, path("/a/p"), path("/k/b")), second if count else allowed(2, 6, 1, 0, 0, 0)
+        line = allowed(2, 6, 1, 0, 0, 0, packet=[(1, 2, 3)] if count else [])
+        yield f"the packet's first match, count {count}", sign(of, path("/a/p"), path("/k/a")), line
         # the key's first branch fails behind its Tag
         of = tree(["p", (1,), (7,)], ["k", (1,), "x", ()], ["k", (2,), (1,), ()], patterns=count)
         yield f"the key's second branch, count {count}", sign(of, path("/p/a"), path("/k/b/c")), allowed_if(count == 0, 2, 7, 0, 0, 1, 1, 0)
-        yield f"the key's second branch, bound alike, count {count}", sign(of, path("/p/a"), path("/k/b/a")), allowed(2, 7, 0, 0, 1, 1, 0)
+        line = allowed(2, 7, 0, 0, 1, 1, 0, packet=[(1, 5, 3)] if count else [], key=[(2, 5, 3)] if count > 1 else [])
+        yield f"the key's second branch, bound alike, count {count}", sign(of, path("/p/a"), path("/k/b/a")), line
 
 
 def order():
@@ -373,21 +374,28 @@ def order():
 
 
 def buffer():
-    """On a match all 256 words are written, those of temporary Tags with 0; all others are kept."""
+    """On a match, and on an allowed pair, the first 384 words are written, those of temporary Tags with 0; all others are kept."""
     none = with_count(B, 0)
-    for size in (256, 257, 300, 1024):
-        yield f"{size} words, no Tag bound", match(none, SLASH_A, [9] * size), matched(1, behind=[9] * (size - 256))
-        between = tree([(2,), (1,), (3,), ()], patterns=1)
-        line = matched(3, (1, 5, 3), behind=[9] * (size - 256))
-        yield f"{size} words, a named Tag between temporary ones", match(between, path("/a/b/c"), [9] * size), line
-        refusing = tree([(1, must_be("b")), ()], patterns=0)
-        yield f"{size} words, no match", match(refusing, A_NAME, [9] * size), kept("no match", [9] * size)
-    yield "255 words", match(none, SLASH_A, [9] * 255), kept("refused 27 0", [9] * 255)
-    yield "no words", match(none, SLASH_A), "refused 27 0"
+    for size in (384, 385, 430, 1024):
+        lent = [9] * size
+        yield f"{size} words, no Tag bound", match(none, SLASH_A, lent), matched(1, behind=lent[384:])
+        yield f"{size} words, no Tag bound", sign(none, SLASH_A, SLASH_B, words=lent), allowed(1, 1, 0, 0, words=lent)
+        between = tree([(2,), (1,), (3,), (3,)], patterns=1)
+        line, abc = matched(3, (1, 5, 3), behind=lent[384:]), path("/a/b/c")
+        yield f"{size} words, a named Tag between temporary ones", match(between, abc, lent), line
+        line = allowed(3, 3, 0, 0, 0, 0, 0, 0, packet=[(1, 5, 3)], words=lent)
+        yield f"{size} words, a named Tag between temporary ones", sign(between, abc, path("/c/b/a"), words=lent), line
+        refusing = tree([(1, must_be("b")), (1,)], patterns=0)
+        yield f"{size} words, no match", match(refusing, A_NAME, lent), kept("no match", lent)
+        yield f"{size} words, not allowed", sign(refusing, A_NAME, SLASH_B, words=lent), both_kept("not allowed", words=lent)
+    for size in (383, 256, 0):
+        lent = [9] * size
+        yield f"{size} words", match(none, SLASH_A, lent), kept("refused 27 0", lent)
+        yield f"{size} words", sign(none, SLASH_A, SLASH_B, words=lent), both_kept("refused 27 0", words=lent)
     last = tree([(128,), (127,), ()])
     for count in (126, 127, 128):
         line = walked(2, "/a/b", (128, 127), count)
-        yield f"the last words, count {count}", match(with_count(last, count), AB, [9] * 256), line
+        yield f"the last words, count {count}", match(with_count(last, count), AB, [9] * 384), line
 
 
 # lists of certificates
@@ -499,46 +507,61 @@ def unchanged():
 
 # Light VerSec's own documentation, with temporary Tags that occurrences share
 
-QUICK_COUNT, TUTORIAL_COUNT = 6, 4  # how many patterns are named
 # the three `_` of #KEY are written once, so they have one Tag each in all rules
-QUICK_TAGS = (7, 8, 9)
-QUICK_SHARED = quick(QUICK_TAGS, QUICK_TAGS, QUICK_TAGS)
+SHARED = ((7, 8, 9),) * 3
+QUICK_SHARED = quick(*SHARED)
 # in the tutorial three _role come before them, each written in a rule of its own
 TUTORIAL_TAGS = (8, 9, 10)
-TUTORIAL_SHARED = tutorial(TUTORIAL_TAGS, (5, *TUTORIAL_TAGS), (6, *TUTORIAL_TAGS), (7, *TUTORIAL_TAGS))
+T_SHARED = TUTORIAL_TAGS, (5, *TUTORIAL_TAGS), (6, *TUTORIAL_TAGS), (7, *TUTORIAL_TAGS)
+TUTORIAL_SHARED = tutorial(*T_SHARED)
 # fewer Tags still: one for each temporary identifier, and one for all temporary patterns
-QUICK_SINGLE = quick((7, 7, 7), (7, 7, 7), (7, 7, 7))
-TUTORIAL_IDENTIFIERS = tutorial((6, 6, 6), (5, 6, 6, 6), (5, 6, 6, 6), (5, 6, 6, 6))
-TUTORIAL_SINGLE = tutorial((5, 5, 5), (5, 5, 5, 5), (5, 5, 5, 5), (5, 5, 5, 5))
+SINGLE = ((7, 7, 7),) * 3
+QUICK_SINGLE = quick(*SINGLE)
+T_IDENTIFIERS = (6, 6, 6), (5, 6, 6, 6), (5, 6, 6, 6), (5, 6, 6, 6)
+TUTORIAL_IDENTIFIERS = tutorial(*T_IDENTIFIERS)
+T_SINGLE = (5, 5, 5), (5, 5, 5, 5), (5, 5, 5, 5), (5, 5, 5, 5)
+TUTORIAL_SINGLE = tutorial(*T_SINGLE)
 
 # of the checks that 003 prints as True, those where no temporary Tag meets two components, so that they hold with every Tag named too
 QUICK_STILL, TUTORIAL_STILL = {1}, {7}
 
 
-def checks(what, of, count, of_003, still):
+def checks(what, of, tags, edges, count, of_003, still):
     """003's checks on a model of these rules, and on the same with every Tag named."""
-    edges = QUICK_EDGES if count == QUICK_COUNT else TUTORIAL_EDGES
-    yield what, verdict(of), f"accepted {23 if count == QUICK_COUNT else 29}"
-    for i, (packet, by, answer) in enumerate(of_003, 1):
-        yield f"{what}, check {i}", sign(of, path(packet), path(by)), with_path(answer, edges)
+    yield what, verdict(of), f"accepted {max(edges) + 1}"
+    for i, check in enumerate(of_003, 1):
+        names = [path(uri) for uri in check[:2]]
+        yield f"{what}, check {i}", sign(of, *names), check_line(check, edges, tags, count)
         for more in (128, LARGEST):
-            line = with_path(answer if i in still else "not allowed", edges)
-            yield f"{what}, check {i}, count {more}", sign(with_count(of, more), path(packet), path(by)), line
+            line = check_line(check, edges, tags, more) if i in still else NOT_ALLOWED
+            yield f"{what}, check {i}, count {more}", sign(with_count(of, more), *names), line
+
+
+def quick_checks(what, keys, still=()):
+    return checks(f"quick example, {what}", quick(*keys), quick_tags(*keys), QUICK_EDGES, QUICK_COUNT, QUICK_CHECKS, still)
+
+
+def tutorial_checks(what, keys, still=()):
+    return checks(f"tutorial, {what}", tutorial(*keys), tutorial_tags(*keys), TUTORIAL_EDGES, TUTORIAL_COUNT, TUTORIAL_CHECKS, still)
 
 
 def shared():
     """003's thirteen checks, however its temporary patterns share Tags."""
-    yield from checks("quick example, #KEY's Tags shared", QUICK_SHARED, QUICK_COUNT, QUICK_CHECKS, QUICK_STILL)
-    yield from checks("tutorial, #KEY's Tags shared", TUTORIAL_SHARED, TUTORIAL_COUNT, TUTORIAL_CHECKS, TUTORIAL_STILL)
+    yield from quick_checks("#KEY's Tags shared", SHARED, QUICK_STILL)
+    yield from tutorial_checks("#KEY's Tags shared", T_SHARED, TUTORIAL_STILL)
     # where a key's name has one Tag for three components, a walk that compares them does not match it at all
-    yield from checks("quick example, one temporary Tag", QUICK_SINGLE, QUICK_COUNT, QUICK_CHECKS, ())
-    yield from checks("tutorial, a Tag for each identifier", TUTORIAL_IDENTIFIERS, TUTORIAL_COUNT, TUTORIAL_CHECKS, ())
-    yield from checks("tutorial, one temporary Tag", TUTORIAL_SINGLE, TUTORIAL_COUNT, TUTORIAL_CHECKS, ())
+    yield from quick_checks("one temporary Tag", SINGLE)
+    yield from tutorial_checks("a Tag for each identifier", T_IDENTIFIERS)
+    yield from tutorial_checks("one temporary Tag", T_SINGLE)
+    # by hand, with #KEY's Tags 7, 8 and 9 named: of the author's key /a/blog/author/xinyu/KEY/1/admin/1 KEY stands at 26 (5 bytes)
+    words = dict(packet=[(1, 20, 6), (2, 26, 6), (3, 32, 4)], key=[(4, 11, 8), (5, 19, 7), (7, 31, 3), (8, 34, 7), (9, 41, 3)])
+    article, by, _ = QUICK_CHECKS[0]
+    line = allowed(10, 22, 0, 0, 1, 0, 0, 0, 0, 0, 3, 0, 0, 0, 0, 0, **words)
+    yield "quick example, #KEY's Tags shared, check 1, count 128, by hand", sign(with_count(QUICK_SHARED, 128), path(article), path(by)), line
 
 
-def ended_if(holds, packet_node, key_node, edges):
-    """The line of a pair of rules, by the edges to each rule's end."""
-    return allowed_if(holds, packet_node, key_node, *edges[packet_node], *edges[key_node])
+def signed_if(holds, *rules):
+    return by_rules(*rules) if holds else NOT_ALLOWED
 
 
 ISSUERS = ("1/admin/1", "1/root/1", "2/admin/1", "1/admin/2", "2/root/3")
@@ -550,36 +573,36 @@ def issuers():
     A count above 6 names the first, the first two or all three of #KEY's Tags; those must agree.
     """
     for count in (QUICK_COUNT, 7, 8, 9, 128):
-        of = with_count(QUICK_SHARED, count)
+        of, tags = with_count(QUICK_SHARED, count), quick_tags(*SHARED)
         for mine in ISSUERS[:2]:
             for theirs in ISSUERS:
                 parts = list(zip(mine.split("/"), theirs.split("/")))
                 holds = all(a == b for a, b in parts[: max(0, count - QUICK_COUNT)])
-                author, admin = path(f"/a/blog/author/xinyu/KEY/{mine}"), path(f"/a/blog/admin/admin/KEY/{theirs}")
-                line = ended_if(holds, AUTHOR, ADMIN, QUICK_EDGES)
-                yield f"author {mine} by admin {theirs}, count {count}", sign(of, author, admin), line
-                admin, root = path(f"/a/blog/admin/admin/KEY/{mine}"), path(f"/a/blog/KEY/{theirs}")
-                line = ended_if(holds, ADMIN, ROOT, QUICK_EDGES)
-                yield f"admin {mine} by root {theirs}, count {count}", sign(of, admin, root), line
+                author, admin = f"/a/blog/author/xinyu/KEY/{mine}", f"/a/blog/admin/admin/KEY/{theirs}"
+                line = signed_if(holds, AUTHOR, author, ADMIN, admin, QUICK_EDGES, tags, count)
+                yield f"author {mine} by admin {theirs}, count {count}", sign(of, path(author), path(admin)), line
+                admin, root = f"/a/blog/admin/admin/KEY/{mine}", f"/a/blog/KEY/{theirs}"
+                line = signed_if(holds, ADMIN, admin, ROOT, root, QUICK_EDGES, tags, count)
+                yield f"admin {mine} by root {theirs}, count {count}", sign(of, path(admin), path(root)), line
                 # the root signs no author, however the parts agree
-                yield f"author {mine} by root {theirs}, count {count}", sign(of, author, root), NOT_ALLOWED
+                yield f"author {mine} by root {theirs}, count {count}", sign(of, path(author), path(root)), NOT_ALLOWED
     # the same story by the tutorial, with one Tag for _role too: count 5 names that
     for count in (TUTORIAL_COUNT, 5, 128):
-        of = with_count(TUTORIAL_IDENTIFIERS, count)
+        of, rest = with_count(TUTORIAL_IDENTIFIERS, count), (TUTORIAL_EDGES, tutorial_tags(*T_IDENTIFIERS), count)
         for role, at in ("author", T_AUTHOR), ("reader", T_USER):
             for issuer in ("1/000001/1", "1/root/1", "x/x/x"):
-                packet = path(f"/ndn/blog/{role}/100001/KEY/{issuer}")
-                line = ended_if(count == TUTORIAL_COUNT, at, T_ADMIN, TUTORIAL_EDGES)
-                yield f"{role} {issuer} by an admin, count {count}", sign(of, packet, path(ADMIN_KEY)), line
+                packet = f"/ndn/blog/{role}/100001/KEY/{issuer}"
+                line = signed_if(count == TUTORIAL_COUNT, at, packet, T_ADMIN, ADMIN_KEY, *rest)
+                yield f"{role} {issuer} by an admin, count {count}", sign(of, path(packet), path(ADMIN_KEY)), line
         # the article has no _role, and its key's is compared with nothing; with every Tag named the key's three parts must be equal
-        article = path("/ndn/blog/100001/post/2022/1")
+        article = "/ndn/blog/100001/post/2022/1"
         for issuer in ("1/000001/1", "x/x/x"):
-            key = path(f"/ndn/blog/author/100001/KEY/{issuer}")
-            holds = count < 6 or issuer == "x/x/x"
-            yield f"an article by {issuer}, count {count}", sign(of, article, key), ended_if(holds, T_ARTICLE, T_AUTHOR, TUTORIAL_EDGES)
+            key = f"/ndn/blog/author/100001/KEY/{issuer}"
+            line = signed_if(count < 6 or issuer == "x/x/x", T_ARTICLE, article, T_AUTHOR, key, *rest)
+            yield f"an article by {issuer}, count {count}", sign(of, path(article), path(key)), line
         # a named pattern is compared as ever
         key = path("/ndn/blog/author/100002/KEY/1/1/1")
-        yield f"an article by another author, count {count}", sign(of, article, key), NOT_ALLOWED
+        yield f"an article by another author, count {count}", sign(of, path(article), key), NOT_ALLOWED
 
 
 def bindings_of_keys():

@@ -10,7 +10,7 @@ def left_behind():
     # the first branch binds Tag 1 to a and fails at "x"; the second needs Tag 1 for b
     rebound = tree([(1,), "x", ()], [(2,), (1,), (4,)])
     yield "slip 1: a Tag bound in a failed branch", match(rebound, AB, OLD), matched(4, (1, 5, 3), (2, 2, 3))
-    yield "slip 1: the same in both names", sign(rebound, AB, AB), allowed(4, 4, 1, 0, 1, 0)
+    yield "slip 1: the same in both names", sign(rebound, AB, AB), allowed(4, 4, 1, 0, 1, 0, packet=[(1, 5, 3), (2, 2, 3)])
     # the failed branch's Tag is not among the bound ones
     unused = tree([(1,), "x", ()], [(2,), (3,), ()])
     yield "slip 1: a failed branch leaves no word", match(unused, AB, OLD), matched(4, (2, 2, 3), (3, 5, 3))
@@ -24,7 +24,8 @@ def left_behind():
     yield "slip 1: and still counts", match(kept_tag, path("/a/b/c"), OLD), kept("no match")
     # the packet's first match binds Tag 1, which its second does not: the key needs Tag 1 for another component
     packets = tree([(1,), "p", ()], [(2,), "p", (6,)], ["k", (1,), ()])
-    yield "slip 1: the packet's first match", sign(packets, path("/a/p"), path("/k/b")), allowed(4, 6, 2, 0, 0, 0)
+    line = allowed(4, 6, 2, 0, 0, 0, packet=[(2, 2, 3)], key=[(1, 5, 3)])
+    yield "slip 1: the packet's first match", sign(packets, path("/a/p"), path("/k/b")), line
     # the key's failed walk from the first packet match binds Tag 3 to b
     keys = model(
         node(0, value_edge(5, "k"), pattern_edge(1, 1), pattern_edge(3, 2)),
@@ -39,22 +40,26 @@ def left_behind():
         node(9, parent(6)),
         patterns=4,
     )
-    yield "slip 1: in the key's walk", sign(keys, path("/a/p"), path("/k/b/c")), allowed(4, 8, 2, 0, 0, 1, 0)
+    line = allowed(4, 8, 2, 0, 0, 1, 0, packet=[(2, 2, 3)], key=[(3, 8, 3), (4, 5, 3)])
+    yield "slip 1: in the key's walk", sign(keys, path("/a/p"), path("/k/b/c")), line
 
 
 def first_match_only():
     """Looking for the key only from the packet's first match."""
     # /a/p matches Node 2 first, which has no signer
     unsigned = tree([(1,), "p", ()], [(2,), "p", (6,)], ["k", "b", ()])
-    yield "slip 2: the first match has no signer", sign(unsigned, path("/a/p"), path("/k/b")), allowed(4, 6, 2, 0, 0, 0)
+    line = allowed(4, 6, 2, 0, 0, 0, packet=[(2, 2, 3)])
+    yield "slip 2: the first match has no signer", sign(unsigned, path("/a/p"), path("/k/b")), line
     # the first match's signer wants the key's component equal to Tag 1, the second's to Tag 2
     other = tree([(1,), (2,), (6,)], [(2,), (1,), (6,)], ["k", (1,), ()])
-    yield "slip 2: the first match binds otherwise", sign(other, AB, path("/k/a")), allowed(2, 6, 1, 0, 0, 0)
-    yield "slip 2: only the second match's bindings fit", sign(other, AB, path("/k/b")), allowed(4, 6, 2, 0, 0, 0)
+    line = allowed(2, 6, 1, 0, 0, 0, packet=[(1, 2, 3), (2, 5, 3)])
+    yield "slip 2: the first match binds otherwise", sign(other, AB, path("/k/a")), line
+    line = allowed(4, 6, 2, 0, 0, 0, packet=[(2, 2, 3), (1, 5, 3)])
+    yield "slip 2: only the second match's bindings fit", sign(other, AB, path("/k/b")), line
     yield "slip 2: no match fits", sign(other, AB, path("/k/c")), NOT_ALLOWED
     # likewise the key's first match is not the only one
     second_key = tree(["p", (5,)], [(1,), "b", ()], [(2,), "b", ()])
-    yield "slip 2: the key's second match", sign(second_key, path("/p"), path("/k/b")), allowed(1, 5, 0, 2, 0)
+    yield "slip 2: the key's second match", sign(second_key, path("/p"), path("/k/b")), allowed(1, 5, 0, 2, 0, key=[(2, 2, 3)])
 
 
 def bound_too_soon():
@@ -70,7 +75,8 @@ def bound_too_soon():
     yield "slip 3: its own Tag, bound before", match(again, path("/a/a"), OLD), matched(2, (1, 2, 3))
     # or by the packet, where the key is walked
     chain = tree(["p", (1,), (3,)], [(1, constraint(option(tag(1)))), ()])
-    yield "slip 3: its own Tag, bound by the packet", sign(chain, path("/p/a"), path("/a")), allowed(2, 3, 0, 0, 1)
+    line = allowed(2, 3, 0, 0, 1, packet=[(1, 5, 3)])
+    yield "slip 3: its own Tag, bound by the packet", sign(chain, path("/p/a"), path("/a")), line
     yield "slip 3: bound to another component", sign(chain, path("/p/a"), path("/b")), NOT_ALLOWED
 
 
@@ -85,20 +91,21 @@ def parents():
     itself = model(node(0, parent(0), pattern_edge(0, 1), signer(0)), patterns=1)
     yield "its own parent", match(itself, path("/a/a/a"), OLD), matched(0, (1, 2, 3))
     yield "its own parent, another component", match(itself, path("/a/a/b"), OLD), kept("no match")
-    yield "its own parent, signing", sign(itself, path("/a"), path("/a/a")), allowed(0, 0, 0, 0, 0)
+    yield "its own parent, signing", sign(itself, path("/a"), path("/a/a")), allowed(0, 0, 0, 0, 0, packet=[(1, 2, 3)])
 
 
 def later_branches():
     """The allowed pair is found only in a later branch."""
     # by value: p then any; by pattern: any then q. The second alone has a signer, and the key's walk fails once too
     later = tree(["p", (1,), ()], [(2,), "q", (8,)], ["k", (2,), "x", ()], ["k", (3,), ()])
-    yield "the pattern branch", sign(later, path("/p/q"), path("/k/z")), allowed(4, 8, 2, 0, 1, 1)
-    yield "a later key branch", sign(later, path("/p/q"), path("/k/p")), allowed(4, 8, 2, 0, 1, 1)
+    line = allowed(4, 8, 2, 0, 1, 1, packet=[(2, 2, 3)], key=[(3, 5, 3)])
+    yield "the pattern branch", sign(later, path("/p/q"), path("/k/z")), line
+    yield "a later key branch", sign(later, path("/p/q"), path("/k/p")), line
     yield "no branch", sign(later, path("/p/r"), path("/k/z")), NOT_ALLOWED
     # the first node that is reached has signers, but none of them is the key
     first = tree(["p", (3,)], [(1,), (4,)], ["k1", ()], ["k2", ()])
     yield "the first match's key", sign(first, path("/p"), path("/k1")), allowed(1, 3, 0, 1)
-    yield "the second match's key", sign(first, path("/p"), path("/k2")), allowed(2, 4, 3, 2)
+    yield "the second match's key", sign(first, path("/p"), path("/k2")), allowed(2, 4, 3, 2, packet=[(1, 2, 3)])
 
 
 def order():
@@ -140,7 +147,7 @@ def bindings():
     yield "a ValueEdge of another type", match(tree(["a", ()]), name(component("a", 9)), OLD), kept("no match")
     yield "a type of three bytes", match(tree([(1,), ()]), name(component("a", 300)), OLD), matched(1, (1, 2, 5))
     # a key's binding is not the packet's: Tag 2 is bound by the key alone
-    yield "a key binds its own", sign(tree(["p", (2,)], [(2,), ()]), path("/p"), path("/k")), allowed(1, 2, 0, 1)
+    yield "a key binds its own", sign(tree(["p", (2,)], [(2,), ()]), path("/p"), path("/k")), allowed(1, 2, 0, 1, key=[(2, 2, 3)])
 
 
 def constraints():
@@ -166,7 +173,7 @@ def constraints():
     yield "a bound Tag's Constraint, met", match(again, path("/b/b"), OLD), matched(2, (1, 2, 3))
     chain = tree(["p", (1,), (3,)], [(1, must_be("b")), ()])
     yield "a Constraint in the key's walk", sign(chain, path("/p/a"), path("/a")), NOT_ALLOWED
-    yield "and met", sign(chain, path("/p/b"), path("/b")), allowed(2, 3, 0, 0, 1)
+    yield "and met", sign(chain, path("/p/b"), path("/b")), allowed(2, 3, 0, 0, 1, packet=[(1, 5, 3)])
 
 
 def functions():
@@ -209,7 +216,7 @@ def texts():
             behind=b"".join(symbol(*s) for s in symbols),
         )
         yield f"RuleNames and TagSymbols: {what}", match(named, path("/a"), OLD), matched(1, (1, 2, 3))
-        yield f"RuleNames and TagSymbols: {what}", sign(named, path("/a"), path("/a")), allowed(1, 1, 0, 0)
+        yield f"RuleNames and TagSymbols: {what}", sign(named, path("/a"), path("/a")), allowed(1, 1, 0, 0, packet=[(1, 2, 3)])
 
 
 def cases():

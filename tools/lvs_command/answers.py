@@ -2,12 +2,10 @@
 import re
 from collections import namedtuple
 
-from name import component_uri
-
+from .bindings import WORDS, read_bindings
 from .errors import NO, REFUSED, YES, Failure
 from .refusals import refusal
 
-WORDS = 256  # of the binding buffer: two for each Tag
 MOST_COMPONENTS = 32  # of a name
 PATH_WORDS = 2 * MOST_COMPONENTS  # lent for a path: enough for any two names
 
@@ -24,8 +22,26 @@ class Answer:
     def words(self, labels=None):
         return self.answer
 
+    def lines(self, labels=None):
+        """What is printed below the words."""
+        return []
+
     def object(self, labels=None):
         return {"answer": self.answer, **self._asdict()}
+
+
+class BindingAnswer(Answer):
+    """An answer with bindings. Where no tag is bound, there are no lines for them."""
+
+    def lines(self, labels):
+        return [f"  {binding.words(labels)}" for binding in self.bindings]
+
+    def bindings_line(self, labels):
+        """All of them, as a part of a line."""
+        return "bindings " + (", ".join(binding.short_words(labels) for binding in self.bindings) or "none")
+
+    def binding_objects(self, labels):
+        return [binding.object(labels) for binding in self.bindings]
 
 
 class Refused(Answer, namedtuple("Numbers", "number at")):
@@ -48,28 +64,23 @@ class Accepted(Answer, namedtuple("Numbers", "nodes")):
         return f"accepted: {counted(self.nodes, 'node')}"
 
 
-class Match(Answer, namedtuple("Numbers", "node bound buffer")):
+class Match(BindingAnswer, namedtuple("Numbers", "node bound bindings")):
     answer, status = "match", YES
 
     def words(self, labels):
         return f"match: {labels.node(self.node)}, {counted(self.bound, 'tag')} bound"
 
     def object(self, labels):
-        return {"answer": self.answer, "node": self.node, "rules": labels.rules(self.node), "bound": self.bound}
-
-    def bindings(self, name):
-        """(Tag, start, length, component) of each bound Tag; the component as in a URI."""
-        for tag, (start, length) in enumerate(zip(self.buffer[::2], self.buffer[1::2]), 1):
-            if length:
-                yield tag, start, length, component_uri(name[start : start + length])
+        node = {"node": self.node, "rules": labels.rules(self.node)}
+        return {"answer": self.answer, **node, "bound": self.bound, "bindings": self.binding_objects(labels)}
 
 
 class NoMatch(Answer, namedtuple("Numbers", "")):
     answer, status = "no match", NO
 
 
-class Allowed(Answer, namedtuple("Numbers", "packet_node key_node buffer")):
-    """The buffer begins with the path, a word for each component of the two names."""
+class Allowed(BindingAnswer, namedtuple("Numbers", "packet_node key_node bindings path")):
+    """The path begins with a word for each component of the two names; what follows means nothing."""
 
     answer, status = "allowed", YES
 
@@ -78,7 +89,8 @@ class Allowed(Answer, namedtuple("Numbers", "packet_node key_node buffer")):
 
     def object(self, labels):
         nodes = {"packet_node": self.packet_node, "key_node": self.key_node}
-        return {"answer": self.answer, **nodes, "packet_rules": labels.rules(self.packet_node), "key_rules": labels.rules(self.key_node)}
+        rules = {"packet_rules": labels.rules(self.packet_node), "key_rules": labels.rules(self.key_node)}
+        return {"answer": self.answer, **nodes, **rules, "bindings": self.binding_objects(labels)}
 
 
 class NotAllowed(Answer, namedtuple("Numbers", "")):
@@ -128,8 +140,11 @@ def is_bytes(word):
     return len(word) % 2 == 0 and re.fullmatch("[0-9a-f]+", word)
 
 
-def read_answer(line):
-    """The answer in a line of lvs_cases, which goes on with all that was lent to the call: numbers, then bytes in hexadecimal."""
+def read_answer(line, *names):
+    """The answer in a line of lvs_cases, which goes on with all that was lent to the call: numbers, then bytes in hexadecimal.
+
+    The names are those that the call was asked about.
+    """
     words = line.split()
     if words[:1] == ["refused"] and len(numbers := all_numbers(words[1:3])) == 2:
         return Refused(*numbers)
@@ -139,11 +154,11 @@ def read_answer(line):
     if words[:1] == ["accepted"] and len(numbers) == 1:
         return Accepted(*numbers)
     if words[:1] == ["match"] and len(numbers) == 2 + WORDS:
-        return Match(*numbers[:2], tuple(numbers[2:]))
+        return read_match(*numbers[:2], tuple(read_bindings(numbers[2:], *names)))
     if words[:2] == ["no", "match"]:
         return NoMatch()
-    if words[:1] == ["allowed"] and len(numbers) == 2 + PATH_WORDS:
-        return Allowed(*numbers[:2], tuple(numbers[2:]))
+    if words[:1] == ["allowed"] and len(numbers) == 2 + WORDS + PATH_WORDS:
+        return Allowed(*numbers[:2], tuple(read_bindings(numbers[2 : 2 + WORDS], *names)), tuple(numbers[2 + WORDS :]))
     if words[:2] == ["not", "allowed"]:
         return NotAllowed()
     if words == ["accepted"]:
@@ -155,6 +170,12 @@ def read_answer(line):
     if words == ["none"]:
         return NoCertificate()
     return no_answer(line)
+
+
+def read_match(node, bound, bindings):
+    if len(bindings) != bound:
+        raise Failure(f"lvs_cases answers with {counted(bound, 'bound tag')}, and with the words of {len(bindings)}")
+    return Match(node, bound, bindings)
 
 
 def read_lent(words):

@@ -9,7 +9,8 @@ import time
 from typing import NamedTuple
 
 from .answers import Accepted, Allowed, Certificate, Described, Followed, Match, NoCertificate, NoMatch, NotAllowed, NotFollowed, Refused, Written
-from .answers import PATH_WORDS, WORDS, counted, no_answer, read_answer
+from .answers import PATH_WORDS, counted, no_answer, read_answer
+from .bindings import WORDS
 from .errors import Failure, say
 from .refusals import LISTS
 
@@ -57,7 +58,7 @@ def match_case(model, name):
 
 
 def sign_case(model, packet, key):
-    return "S", ((MODEL, model), (PACKET, packet), (KEY, key), (None, bytes(2 * PATH_WORDS)))
+    return "S", ((MODEL, model), (PACKET, packet), (KEY, key), (None, bytes(4 * WORDS)), (None, bytes(2 * PATH_WORDS)))
 
 
 def follow_case(model, packet, key, path):
@@ -98,7 +99,7 @@ def written(case):
 
 def answer_of(case, line):
     letter, fields = case
-    answer = read_answer(line)
+    answer = read_answer(line, *(data for field, data in fields if field in (PACKET, KEY)))
     if not isinstance(answer, (Refused, ANSWERS[letter])):
         no_answer(line)
     for field, data in fields:

@@ -88,11 +88,11 @@ def name_bytes(text, what):
 
 
 def show(args, answer, labels=None, more=None, lines=()):
-    """Prints an answer: in words with `lines` below, or as an object with `more` in it. Answers its exit status."""
+    """Prints an answer: in words with its lines and `lines` below, or as an object with `more` in it. Answers its exit status."""
     if args.json:
         print_object({**answer.object(labels), **(more or {})})
     else:
-        print("\n".join([answer.words(labels), *lines]))
+        print("\n".join([answer.words(labels), *answer.lines(labels), *lines]))
     return answer.status
 
 

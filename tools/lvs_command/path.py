@@ -89,7 +89,7 @@ class AllowedPath:
     """The path of an allowed pair, edge by edge."""
 
     def __init__(self, answer, labels, packet, key):
-        self.labels, self.path = labels, answer.buffer[: len(components(packet)) + len(components(key))]
+        self.labels, self.path = labels, answer.path[: len(components(packet)) + len(components(key))]
         self.steps = list(steps(labels.model, packet, key, self.path))
         if ends(labels.model, self.steps) != (answer.packet_node, answer.key_node):
             raise Failure(f"lvs_cases answers with the path {path_text(self.path)}, which does not lead to its nodes")

@@ -26,7 +26,7 @@ REFUSALS = {
     24: Refusal("the key name is longer than 1,024 bytes"),
     25: Refusal("the key name is malformed: it is not one name element with nothing but components in it"),
     26: Refusal("the key name has more than 32 components"),
-    27: Refusal("the buffer for the bindings has fewer than 256 words"),
+    27: Refusal("the buffer for the bindings has fewer than 384 words"),
     30: Refusal("the two lists are no description, or too short for the model's"),
     31: Refusal("the buffer for the model is too short"),
     32: Refusal("this entry of the list is no key name: it is malformed, longer than 1,024 bytes, or has more than 32 components", "entry"),

@@ -13,8 +13,22 @@ from .path import AllowedPath
 
 DETAILS = """\
 example:
+  $ lvs sign example/model.lvs /ndn/blog/100001/post/2022/1 /ndn/blog/admin/000001/KEY/1/root/1
+  allowed: packet at node 28, key at node 12
+    tag 1 = 000001, from the key
+    tag 2 = 100001, from the packet
+    tag 3 = 2022, from the packet
+    tag 4 = 1, from the packet
+
+Below an allowed pair are its bindings: each bound tag, by its symbol where the model has one;
+its component, as in a URI; and the name in which it was first bound. A tag that is bound in the
+packet and met again in the key, as the ID of this author, is from the packet:
+
   $ lvs sign example/model.lvs /ndn/blog/100001/post/2022/1 /ndn/blog/author/100001/KEY/1/000001/1
   allowed: packet at node 28, key at node 18
+    tag 2 = 100001, from the packet
+    tag 3 = 2022, from the packet
+    tag 4 = 1, from the packet
 
 With --path an allowed pair is answered with its path too, edge by edge: the node, the ordinal
 of its edge, whether that is for a value or has a pattern, the component that crosses it, and
@@ -23,6 +37,7 @@ last line has the ordinals alone: `lvs follow` takes them, and checks them witho
 
   $ lvs sign --path example/model.lvs /ndn/blog/admin/000001/KEY/1/root/1 /ndn/blog/KEY/1/self/1
   allowed: packet at node 12, key at node 6
+    tag 1 = 000001, from the packet
     packet:
       node 0, edge 0, value: ndn -> node 1
       node 1, edge 0, value: blog -> node 2
@@ -41,18 +56,25 @@ last line has the ordinals alone: `lvs follow` takes them, and checks them witho
       node 5, edge 0, pattern _ (tag 7): 1 -> node 6
     path 0,0,1,0,0,0,0,0,0,0,0,0,0,0
 
-The answer and the ordinals are the proved call's. The nodes, kinds and tags of the edges are a
-display of the model's bytes and are not proved.
+The answer, the bindings and the ordinals are the proved call's. Symbols, and the nodes, kinds
+and tags of the edges, are a display of the model's bytes and are not proved.
 
 With - in place of the names, each line of standard input has a packet name and a key name,
 with blanks between; empty lines and those that begin with # are skipped. A pair's answer is
-one line: the line number, the answer, the names, and with --path the ordinals of an allowed
-pair. A malformed line gets an error on standard error (with --json, an object), and the rest
-is still answered. Of a refused model there is the refusal only.
+one line: the line number, the answer, the names, and of an allowed pair with --bindings its
+bindings and with --path its ordinals. A malformed line gets an error on standard error (with
+--json, an object), and the rest is still answered. Of a refused model there is the refusal
+only.
 
   $ lvs sign example/model.lvs - <example/requests.txt | head -n 2
      3  allowed: packet at node 12, key at node 6     /ndn/blog/admin/000001/KEY/1/root/1  by  /ndn/blog/KEY/1/self/1
      5  not allowed                                   /ndn/blog/admin/000001/key/1/root/1  by  /ndn/blog/KEY/1/self/1
+  $ lvs sign --bindings example/model.lvs - <example/requests.txt | grep -o 'by .* bindings .*' | head -n 2
+  by  /ndn/blog/KEY/1/self/1  bindings tag 1 = 000001 (packet)
+  by  /ndn/blog/admin/000001/KEY/1/root/1  bindings tag 1 = 000001 (key), tag 2 = 100001 (packet)
+
+--json always has the bindings of an allowed pair, each with the start and the length of its
+component in the name that it is from, in bytes.
 
 The exit status is the highest of any line's: 3 malformed, 2 refused, 1 not allowed, else 0.
 No pair at all is 3 too, so that an empty list is not taken for one that is allowed.
@@ -63,6 +85,7 @@ RUN_PAIRS, RUN_BYTES = 2000, 1 << 23  # for one run of the driver: pairs, and by
 
 def add(commands):
     command = add_command(commands, "sign", run, "Say whether a key may sign a packet, by their names.", DETAILS)
+    command.add_argument("--bindings", action="store_true", help="print the bindings of pairs from standard input too")
     command.add_argument("--path", action="store_true", help="print the path of an allowed pair, edge by edge")
     command.add_argument("packet", metavar="PACKET", help="the packet's name, or - for pairs of names from standard input")
     command.add_argument("key", metavar="KEY", nargs="?", help="the key's name, where the packet's is given")
@@ -138,8 +161,12 @@ def show_line(args, line, answer, labels):
     if args.json:
         print_object({"line": line.number, "packet": packet, "key": key, **answer.object(labels), **(path.object() if path else {})})
     else:
-        ordinals = f"  {path.line()}" if path else ""
-        print(f"{line.number:>4}  {answer.words(labels):<44}  {printable(packet)}  by  {printable(key)}{ordinals}")
+        parts = [f"{line.number:>4}", f"{answer.words(labels):<44}", printable(packet), "by", printable(key)]
+        if args.bindings and isinstance(answer, Allowed):
+            parts.append(answer.bindings_line(labels))
+        if path:
+            parts.append(path.line())
+        print("  ".join(parts))
     return answer.status
 
 

@@ -12,6 +12,7 @@ from urllib.parse import quote
 from name import Fault, Malformed, component, component_uri, element, elements
 
 from .description import Call, Description, Node, PatternEdge, Symbol, Tag, Value, ValueEdge
+from .model import LARGEST_TAG
 from .refusals import refusal
 
 FORMAT = """\
@@ -42,7 +43,6 @@ signers keep their order, each among themselves.
 """
 
 LARGEST = (1 << 64) - 1
-LARGEST_TAG = 128
 IDENTIFIER = r"[A-Za-z_][A-Za-z0-9_]*"
 AN_IDENTIFIER = "an identifier (a letter or _, then letters, digits or _)"
 BLANKS = " \t\r"

@@ -3,7 +3,7 @@ use Prim.Native.Nat.{ℕ, _-_, _≤_}
 use mathlib.Core.Path.{_≡_, refl, sym, ap, _∙_}
 use mathlib.Core.Bool.{Bool, true, false}
 use mathlib.Core.List.{List}
-use mathlib.Core.Option.{none}
+use mathlib.Core.Option.{Option, none, some}
 use lib.ListN.{length, take, drop}
 use Rattle.tlv.specs.Bytes.{Bytes}
 use Rattle.tlv.specs.Lists.{first}
@@ -12,14 +12,13 @@ use Rattle.tlv.proofs.Cuts.{Step}
 use Rattle.lvs_spec.specs.Limits.{maxNameBytes}
 use Rattle.lvs_spec.specs.Model.{Model}
 use Rattle.lvs_spec.specs.Names.{Component, NameReading, badName, goodName, nameReading, packetName, keyName}
-use Rattle.lvs_spec.specs.Walk.{pairs}
-use Rattle.lvs_spec.specs.Answers.{SignOutcome}
+use Rattle.lvs_spec.specs.Walk.{Pair, pairs}
+use Rattle.lvs_spec.specs.Answers.{SignOutcome, pairFound}
 use Rattle.lvs_spec.specs.Certificates.{entries, isBad, unfit, fitEntries, listReading, isAllowed, roomy, allows}
 use Rattle.lvs_spec.proofs.Lists.{clash}
 use Rattle.lvs_spec.proofs.Names.{good-short}
 use Rattle.lvs_spec.proofs.Inputs.{roomy-enough}
 use Rattle.lvs_spec.proofs.Signing.{signs-first}
-use Rattle.lvs_spec.proofs.Buffer.{pair-answer}
 use Rattle.lvs_spec.proofs.Certificates.{reading-fit}
 use Rattle.lvs_names.specs.Rows.{rowFrom}
 use Rattle.lvs_names.specs.Answers.{nameRead}
@@ -28,9 +27,10 @@ use Rattle.lvs_names.specs.declared.NameRead.{NameRead}
 use Rattle.lvs_names.specs.declared.NameRead.the-variants.{Good, Refused}
 use Rattle.lvs_names.proofs.Alone.{cut-is, cut-element}
 use Rattle.lvs_names.proofs.Names.{good-row}
-use Rattle.lvs_walk.specs.Calls.{signFound, FirstPair}
+use Rattle.lvs_walk.specs.Calls.{FirstPair}
 use Rattle.lvs_walk.specs.declared.Found.{Found}
 use Rattle.lvs_walk.specs.declared.Found.the-variants.{Nothing, At}
+use Rattle.lvs_walk.proofs.Answers.{no-pair, some-pair}
 use Rattle.lvs_certificates.proofs.Entries.{entry, Sought, sought-here}
 
 pub unfit-broken : unfit none ≡ true
@@ -84,18 +84,20 @@ module _ {list : List ℕ} {at t start stop : ℕ} {p : Place} (bytes : Bytes li
       go false e = good-key e
 
   -- it may sign where the search found a pair
-  module _ (packet : List ℕ) {m : Model} {ps : List Component} {r : Found} {path after : List ℕ}
-      (good : goodName ps ≡ packetName packet) (k : GoodKey) (found : FirstPair m ps (rowFrom key (start - at)) path r after) where
-    allows-is : allows m packet (entry list at t start stop) ≡ isAllowed (signFound r)
+  module _ (packet : List ℕ) {m : Model} {ps : List Component} {r : Found} {path slots after : List ℕ}
+      (good : goodName ps ≡ packetName packet) (k : GoodKey) (found : FirstPair m ps (rowFrom key (start - at)) packet key path r slots after) where
+    allows-is : {o : Option Pair} → first (pairs m ps (rowFrom key (start - at))) ≡ o
+        → allows m packet (entry list at t start stop) ≡ isAllowed (pairFound o roomy .answer)
     unfolding allows
-    allows-is =
+    allows-is e =
         let room = roomy-enough packet key .enough ps (rowFrom key (start - at)) (sym good) (k .row) in
-        let same = pair-answer (first (pairs m ps (rowFrom key (start - at)))) roomy (record { path = path }) in
-        rw (← (cut-is bytes st))
-        (ap isAllowed (ap (λ (o : SignOutcome). o .answer) (signs-first m packet key roomy (sym good) (k .row) room) ∙ same ∙ sym (found .answer)))
+        let signs = signs-first m packet key roomy (sym good) (k .row) room ∙ ap (λ o. pairFound o roomy) e in
+        rw (← (cut-is bytes st)) (ap (λ (o : SignOutcome). isAllowed (o .answer)) signs)
 
     pub pair-allows : {v w : ℕ} → r ≡ At v w → allows m packet (entry list at t start stop) ≡ true
-    pair-allows e = allows-is ∙ ap (λ (q : Found). isAllowed (signFound q)) e
+    unfolding pairFound
+    pair-allows e = let (z, p, _) = some-pair found e in allows-is p
 
     pub no-pair-allows : r ≡ Nothing → allows m packet (entry list at t start stop) ≡ false
-    no-pair-allows e = allows-is ∙ ap (λ (q : Found). isAllowed (signFound q)) e
+    unfolding pairFound
+    no-pair-allows e = allows-is (no-pair found e)

@@ -13,6 +13,7 @@ ghost use Rattle.lvs_spec.specs.Certificates.{entries, unfit, fitEntries, listR
 ghost use Rattle.lvs_names.specs.Rows.{rowFrom};
 ghost use Rattle.lvs_edges.specs.Nodes.{NodesAt};
 ghost use Rattle.lvs_certificates.specs.Answers.{indexOf, listRead};
+use lvs_bindings::SLOT_WORDS;
 use lvs_edges::nodes::PLACE_WORDS;
 use lvs_names::NameRead;
 use lvs_names::Side;
@@ -132,6 +133,7 @@ pub fn first_allowed<'a>(
                 next,
             } => {
                 let key = &list[at..end];
+                let mut slots = [0u32; SLOT_WORDS];
                 let mut path = [0u16; 1]; // of which none is lent
                 let pair = lvs_walk::find_pair(
                     model,
@@ -140,6 +142,7 @@ pub fn first_allowed<'a>(
                     from,
                     key,
                     start - at,
+                    &mut slots,
                     &mut path[..0],
                 );
                 if let Found::At(_, _) = pair {

@@ -20,7 +20,7 @@ use Rattle.lvs_names.specs.declared.Side.the-variants.{Packet, Key}
 use Rattle.lvs_bindings.specs.Slots.{clear, bindingsOf}
 use Rattle.lvs_bindings.proofs.Slots.{none-bound}
 use Rattle.lvs_edges.specs.Nodes.{NodesAt}
-use Rattle.lvs_edges.specs.Sides.{rowFor}
+use Rattle.lvs_edges.specs.Sides.{nameFor, rowFor}
 use Rattle.lvs_verdict.specs.Answers.{GoodInputs}
 use Rattle.lvs_follow.specs.Following.{Within, Led}
 use Rattle.lvs_follow.specs.declared.End.{End}

@@ -9,6 +9,7 @@
 //! Arguments: seed, number of generated cases, LINES.
 
 use std::env;
+use std::fmt::Display;
 use std::fs::File;
 use std::io::{self, BufWriter, Write};
 use std::process::ExitCode;
@@ -153,11 +154,18 @@ fn line_of(case: &Case) -> String {
 fn refused(case: &Case, number: u32, place: usize) -> String {
     let mut line = format!("refused {number} {place}");
     match case {
-        Case::Match { words, .. } => line.extend(words.iter().map(|word| format!(" {word}"))),
-        Case::Sign { path, .. } => line.extend(path.iter().map(|word| format!(" {word}"))),
+        Case::Match { words, .. } => add_words(&mut line, words),
+        Case::Sign { words, path, .. } => {
+            add_words(&mut line, words);
+            add_words(&mut line, path);
+        }
         _ => {}
     }
     line
+}
+
+fn add_words(line: &mut String, words: &[impl Display]) {
+    line.extend(words.iter().map(|word| format!(" {word}")));
 }
 
 /// The last byte of the Version changed.

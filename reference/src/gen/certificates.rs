@@ -6,7 +6,7 @@ use super::names::{Signing, Style};
 use super::random::Random;
 use super::tree::{encode, Tree};
 use super::work::{self, Models};
-use crate::answers::first_allowed;
+use crate::answers::may_sign;
 use crate::cases::{Case, MAX_LIST_FIELD};
 use crate::certificates::MAX_ENTRIES;
 use crate::elements::{kind, Element, Part};
@@ -153,7 +153,7 @@ impl Pool {
         let is_allowed = |key: &Name| {
             packet
                 .as_ref()
-                .is_some_and(|packet| first_allowed(model, packet, key).is_some())
+                .is_some_and(|packet| may_sign(model, packet, key))
         };
         let mut pool = Pool::default();
         for key in keys {

@@ -7,7 +7,7 @@ use super::sound;
 use crate::cases::MAX_NAME_FIELD;
 use crate::elements::{append_element, append_number, kind};
 use crate::model::{Argument, Model, PatternEdge, Term};
-use crate::names::{Component, Name, PlacedComponent, MAX_COMPONENTS, MAX_NAME_BYTES};
+use crate::names::{Component, Name, PlacedComponent, Role, MAX_COMPONENTS, MAX_NAME_BYTES};
 use crate::walk::{may_cross, Bindings};
 
 /// More candidates than this aren't tried for one edge.
@@ -182,6 +182,7 @@ impl<'m> Trail<'m> {
     fn bind(&mut self, model: &Model, edge: &PatternEdge, component: Component<'m>) {
         let component = PlacedComponent {
             component,
+            role: Role::Packet,
             start: 0,
             length: 0,
         };

@@ -1,9 +1,9 @@
-//! Cases with paths: the words that are lent to a signing call, and cases of the
-//! call that follows a path.
+//! Cases with paths, most of them of the call that follows one.
 
 use std::ops::ControlFlow;
 
 use super::certificates::mostly_sound_model;
+use super::lent;
 use super::models::{write, Sample};
 use super::names::{restyled, Signing, Style};
 use super::plan::{NodePlan, OwnedComponent, Plan, ValueEdgePlan};
@@ -314,43 +314,19 @@ fn finished(random: &mut Random, sample: Sample, mut ticket: Ticket) -> Case {
         };
     }
     let needed = component_count(&packet) + component_count(&key);
-    let mut words = lent_words(random, needed);
+    let mut lent_path = lent::path_words(random, needed);
     if random.chance(30) {
         // what is there already mustn't matter
-        path.truncate(words.len());
-        words[..path.len()].copy_from_slice(&path);
+        path.truncate(lent_path.len());
+        lent_path[..path.len()].copy_from_slice(&path);
     }
     Case::Sign {
         model,
         packet,
         key,
-        path: words,
+        words: lent::binding_words(random),
+        path: lent_path,
     }
-}
-
-/// The words that are lent to a signing call whose names have so many components:
-/// mostly enough.
-pub fn lent_words(random: &mut Random, needed: usize) -> Vec<u16> {
-    let length = match random.below(100) {
-        0..=52 => needed,
-        53..=74 => needed + random.between(1, 6),
-        75..=84 => needed.max(64),
-        85 | 86 => needed + random.between(7, 200),
-        87 => *random.pick(&[255, 256, 257, 1_024, MAX_PATH_WORDS - 1, MAX_PATH_WORDS]),
-        88..=93 => needed.saturating_sub(1),
-        94..=96 => 0,
-        _ => random.below(needed.max(1)),
-    };
-    let first = random.number() as u16;
-    let item: fn(&mut Random, u16) -> u16 = match random.below(10) {
-        0 => |_, counted| counted,
-        1 => |random, _| random.below(4) as u16,
-        2 => |_, _| 0,
-        3 => |_, _| u16::MAX,
-        _ => |random, _| random.number() as u16,
-    };
-    let counted = (0..length).map(|place| first.wrapping_add(place as u16));
-    counted.map(|counted| item(random, counted)).collect()
 }
 
 /// The paths that two names have in a model, by what keeps them from being
@@ -374,14 +350,14 @@ impl Pairs {
         let mut pairs = Pairs::default();
         let _ = visit_pairs::<()>(model, packet, key, &mut |pair| {
             if !pair.is_allowed(model) {
-                keep(&mut pairs.unlisted, &pair.path);
+                keep(&mut pairs.unlisted, &pair.trace.path);
                 return ControlFlow::Continue(());
             }
-            keep(&mut pairs.allowed, &pair.path);
-            let of_key = &pair.path[packet.components.len()..];
+            keep(&mut pairs.allowed, &pair.trace.path);
+            let of_key = &pair.trace.path[packet.components.len()..];
             let afresh = &mut Bindings::default();
             if end_of(model, &key.components, of_key, afresh).is_none() {
-                keep(&mut pairs.dependent, &pair.path);
+                keep(&mut pairs.dependent, &pair.trace.path);
             }
             ControlFlow::Continue(())
         });

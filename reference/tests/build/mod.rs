@@ -11,12 +11,15 @@ pub const NAME_A: &str = "07 03 08 01 61";
 pub const NAME_B: &str = "07 03 08 01 62";
 pub const EMPTY_NAME: &str = "07 00";
 
+/// Start, length and origin of each of the 128 Tags.
+pub const BINDING_ROOM: usize = 384;
 /// As many words as the longest names have components.
 pub const PATH_ROOM: usize = 64;
 
-/// The signing answer where the path doesn't matter: there is room for any.
+/// The signing answer where the words don't matter: there is room for any.
 pub fn sign(model: &[u8], packet: &[u8], key: &[u8]) -> SignAnswer {
-    lvs_reference::sign(model, packet, key, &mut [0; PATH_ROOM])
+    let (buffer, path) = (&mut [0; BINDING_ROOM], &mut [0; PATH_ROOM]);
+    lvs_reference::sign(model, packet, key, buffer, path)
 }
 
 /// The bytes of a text in hexadecimal.

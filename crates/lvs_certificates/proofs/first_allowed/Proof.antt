@@ -3,6 +3,7 @@
 use borrow.Author.Needs.{needs}
 use native.Mathlib.Omega.{arith}
 use Prim.Native.Nat.{_-_}
+use mathlib.Core.Path.{refl}
 use lib.ListN.{length}
 use Rattle.tlv.specs.Bytes.{Bytes}
 use Rattle.tlv.proofs.Cuts.{seen, SeenOf}
@@ -38,7 +39,7 @@ good : (c : tie.After-start Inv μ) → GoodKey (bytes c) (step c)
 good c = all-fit (bytes c) (step c) (began c .pre .1 .1) (turn c .loop .inv .1)
 
 abbrev entry : tie.After-find-pair Inv μ → tie.After-start Inv μ
-entry c = c .before .before .before .before
+entry c = c .before .before .before .before .before
 
 loop-holds : tie.Need-loop-holds Inv μ
 loop-holds c = (sought-start, sought-start)
@@ -57,9 +58,9 @@ sub-find-pair c = let st = step (c .before .before) in omega (arith, st .before)
 
 find-pair-requires : tie.Need-find-pair-requires Inv μ
 find-pair-requires c κs =
-    let e = c .before .before .before in
+    let e = c .before .before .before .before in
     let s = began e in
-    (s .pre .0, (packet-short (s .args .packet .now) (s .pre .1 .0), good e .short))
+    (s .pre .0, (packet-short (s .args .packet .now) (s .pre .1 .0), good e .short, refl))
 
 returns : tie.Need-returns Inv μ
 returns c =
