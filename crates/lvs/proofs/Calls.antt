@@ -13,9 +13,10 @@ use Rattle.lvs_spec.specs.Limits.{maxCertificates, bindingWords}
 use Rattle.lvs_spec.specs.Model.{modelOf}
 use Rattle.lvs_spec.specs.Verdict.{Verdict, verdict}
 use Rattle.lvs_spec.specs.Names.{Component, badName, goodName, nameReading, packetName}
-use Rattle.lvs_spec.specs.Walk.{Match, packetMatches}
+use Rattle.lvs_spec.specs.Walk.{Match, packetMatches, pairs}
 use Rattle.lvs_spec.specs.Answers.{MatchAnswer, plain, words, boundCount, matchRefused, matchFound, matchWalked, matchRoom, matchName, matchIn, matchOutcome}
-use Rattle.lvs_spec.specs.Answers.{bad, good, inputs, SignOutcome, signRefused, signRoom, signWith, signOutcome}
+use Rattle.lvs_spec.specs.Answers.{bad, good, inputs, SignAnswer, Buffers, SignOutcome, signRefused, pairFound, signRoom, signWith, signOutcome}
+use Rattle.lvs_spec.specs.Demands.{RoomFor}
 use Rattle.lvs_spec.specs.Certificates.{Entry, entries, ListReading, fitEntries, listReading}
 use Rattle.lvs_spec.specs.Certificates.{SuggestAnswer, suggestFrom, suggestName, suggestIn, suggestAnswer}
 use Rattle.lvs_spec.proofs.Usable.{accepted-usable, refused-unusable}
@@ -25,9 +26,11 @@ use Rattle.lvs_spec.proofs.Certificates.{reading-fit}
 use Rattle.lvs_names.specs.Rows.{rowFrom}
 use Rattle.lvs_names.specs.declared.Row.{Row}
 use Rattle.lvs_verdict.specs.Answers.{GoodInputs}
-use Rattle.lvs_walk.specs.Calls.{signFound, FirstPair}
+use Rattle.lvs_bindings.specs.Slots.{Wrote}
+use Rattle.lvs_walk.specs.Calls.{FirstPair}
 use Rattle.lvs_walk.specs.declared.Found.{Found}
-use Rattle.lvs_walk.proofs.Answers.{pair-outcome}
+use Rattle.lvs_walk.specs.declared.Found.the-variants.{Nothing, At}
+use Rattle.lvs_walk.proofs.Answers.{none-outcome, some-outcome}
 
 -- ---- the match call
 
@@ -67,14 +70,11 @@ module _ (b name buffer : List ℕ) where
 
 -- ---- the signing call
 
-module _ (b packet key path : List ℕ) where
-  abbrev outcome : SignOutcome
-  outcome = signOutcome b packet key (record { path = path })
-
+module _ (b packet key : List ℕ) (s : Buffers) where
   pub sign-refused : {r i : ℕ} → inputs b packet key ≡ bad (record { number = r; at = i })
-      → outcome ≡ signRefused (record { number = r; at = i }) (record { path = path })
+      → signOutcome b packet key s ≡ signRefused (record { number = r; at = i }) s
   unfolding signOutcome signWith
-  sign-refused e = ap (λ i. signWith i (record { path = path })) e
+  sign-refused e = ap (λ i. signWith i s) e
 
   module _ {p k : Row} (g : GoodInputs b packet key p k) where
     abbrev ps : List Component
@@ -86,20 +86,34 @@ module _ (b packet key path : List ℕ) where
     counted : length ps + length ks ≡ p .count + k .count
     counted = rw (g .packet-row .count, g .key-row .count)
 
-    read-on : outcome ≡ signWith (good (modelOf b) ps ks) (record { path = path })
+    read-on : signOutcome b packet key s ≡ signWith (good (modelOf b) ps ks) s
     unfolding signOutcome
-    read-on = ap (λ i. signWith i (record { path = path })) (g .is)
+    read-on = ap (λ i. signWith i s) (g .is)
 
-    pub sign-no-room : length path < p .count + k .count → outcome ≡ signRefused (plain 34) (record { path = path })
+    pub sign-no-words : length (s .words) < bindingWords → signOutcome b packet key s ≡ signRefused (plain 27) s
     unfolding signWith signRoom
-    sign-no-room h = read-on ∙ rw (counted, lt-ltb (length path) (p .count + k .count) h)
+    sign-no-words h = read-on ∙ rw (lt-ltb (length (s .words)) bindingWords h)
 
-    pub sign-walked : p .count + k .count ≤ length path → {r q : Found} {after : List ℕ} → FirstPair (modelOf b) ps ks path r after → r ≡ q
-        → record { answer = signFound q; buffers = record { path = after } } ≡ outcome
-    sign-walked room {after = after} f e =
-        let enough : length ps + length ks ≤ length path = omega (arith, counted, room) in
-        ap (λ q. record { answer = signFound q; buffers = record { path = after } }) (sym e) ∙ pair-outcome f enough ∙
-        sym (read-on ∙ room-first (modelOf b) ps ks (record { path = path }) enough)
+    module _ (room : bindingWords ≤ length (s .words)) where
+      pub sign-no-room : length (s .path) < p .count + k .count → signOutcome b packet key s ≡ signRefused (plain 34) s
+      unfolding signWith signRoom
+      sign-no-room h = read-on ∙ rw (le-ltb (length (s .words)) bindingWords room, counted, lt-ltb (length (s .path)) (p .count + k .count) h)
+
+      module _ (path-room : p .count + k .count ≤ length (s .path)) {r : Found} {slots after : List ℕ}
+          (f : FirstPair (modelOf b) ps ks packet key (s .path) r slots after) where
+        enough : RoomFor ps ks s
+        enough = record { words = room; path = omega (arith, counted, path-room) }
+
+        searched : signOutcome b packet key s ≡ pairFound (first (pairs (modelOf b) ps ks)) s
+        searched = read-on ∙ room-first (modelOf b) ps ks s enough
+
+        pub sign-none : r ≡ Nothing
+            → record { answer = SignAnswer.notAllowed; buffers = record { words = s .words; path = after } } ≡ signOutcome b packet key s
+        sign-none e = none-outcome {s = s} f e ∙ sym searched
+
+        pub sign-some : {v w n : ℕ} {words : List ℕ} → r ≡ At v w → Wrote packet slots (s .words) n words
+            → record { answer = SignAnswer.allowed v w; buffers = record { words = words; path = after } } ≡ signOutcome b packet key s
+        sign-some e wrote = some-outcome {s = s} f e enough wrote ∙ sym searched
 
 -- ---- the suggesting call
 

@@ -9,13 +9,14 @@
 --
 -- The format, the walk and the refusal numbers are described in docs/format.md and defined in crates/lvs_spec/specs/; its Demands.antt has the
 -- terms used here, such as `SomeMatch`.
-use Prim.Native.Nat.{ℕ, suc, _+_, _*_, _≤_, _<_}
+use Prim.Native.Nat.{ℕ, suc, _+_, _≤_, _<_}
 use mathlib.Core.Path.{_≡_, refl, sym, ap, _∙_}
 use mathlib.Core.Logic.{_↔_}
 use mathlib.Core.Bool.{true, false}
-use mathlib.Core.List.{List, _∷_, _++_, List·Memᴰ}
+use mathlib.Core.List.{List, [], _∷_, _++_, List·Memᴰ}
+use mathlib.Core.Option.{some}
 use native.Mathlib.Omega.{arith}
-use lib.ListN.{length, take, getD}
+use lib.ListN.{length, take}
 use contract.Lifetimes.{Lfts}
 use denote.Ref.{RefT, at-last}
 use Rattle.tlv.specs.Bytes.{Bytes}
@@ -26,11 +27,12 @@ use Rattle.lvs_spec.specs.Grammar.{meaning, optional, critical}
 use Rattle.lvs_spec.specs.WellFormed.{thisVersion, wellFormed}
 use Rattle.lvs_spec.specs.Model.{Model, modelOf}
 use Rattle.lvs_spec.specs.Verdict.{describes, reading, verdict}
-use Rattle.lvs_spec.specs.Answers.{Outcome, matchRefused, matchOutcome, Buffers, SignOutcome, signRefused, signOutcome, followAnswer}
+use Rattle.lvs_spec.specs.Walk.{packetOrigin, Binding, bound}
+use Rattle.lvs_spec.specs.Answers.{tagWords, Outcome, matchRefused, matchOutcome, Buffers, SignOutcome, signRefused, signOutcome, followAnswer}
 use Rattle.lvs_spec.specs.Certificates.{suggestAnswer}
 use Rattle.lvs_spec.specs.Gaps.{bare, Inserted, gapPlace, Stands}
 use Rattle.lvs_spec.specs.Demands.{modelRefusals, matchRefusals, followRefusals, signRefusals, suggestRefusals, SomeMatch, NoMatch}
-use Rattle.lvs_spec.specs.Demands.{PathRoom, SomeAllowed, NoneAllowed, SomeFollowed, NoneFollowed}
+use Rattle.lvs_spec.specs.Demands.{wordsAt, FirstBound, SignRoom, SomeAllowed, NoneAllowed, SomeFollowed, NoneFollowed}
 use Rattle.lvs_spec.specs.Demands.{MalformedAt, FaultWithin, joined, FirstAllowed, NoCertificate, Alike, AllRefuse, unnamed, counted}
 use Rattle.lvs_spec.proofs.Refusals.{verdict-number, refused-malformed}
 use Rattle.lvs_spec.proofs.Reading.{malformed-refused, fault-within}
@@ -38,8 +40,11 @@ use Rattle.lvs_spec.proofs.Matching.{MatchedBy, match-matched, match-some, matc
 use Rattle.lvs_spec.proofs.Signing.{SignedBy, sign-allowed, sign-some, sign-none, sign-number}
 use Rattle.lvs_spec.proofs.Following.{follow-some, follow-none, follow-number, accepted-allowed, some-path, path-accepted}
 use Rattle.lvs_spec.proofs.Suggesting.{suggest-number, suggest-first, suggest-none}
-use Rattle.lvs_spec.proofs.Buffer.{refused-keeps, no-match-keeps, answer-by-length, sign-refused-keeps, not-allowed-keeps, sign-by-length}
-use Rattle.lvs_spec.proofs.Temporary.{temporary-words, bound-few}
+use Rattle.lvs_spec.proofs.Buffer.{refused-keeps, no-match-keeps, answer-by-length, matched-at, sign-refused-keeps, not-allowed-keeps}
+use Rattle.lvs_spec.proofs.Buffer.{sign-by-length, signed-at}
+use Rattle.lvs_spec.proofs.Lists.{first-in}
+use Rattle.lvs_spec.proofs.Origins.{packet-bound, first-bound}
+use Rattle.lvs_spec.proofs.Temporary.{temporary-words, temporary-pair-words, bound-few}
 use Rattle.lvs_spec.proofs.Same.{SameAnswers as SameDefined, accepted-same}
 use Rattle.lvs_spec.proofs.Unnamed.{same-unnamed}
 use Rattle.lvs_spec.proofs.Counts.{same-counts}
@@ -91,15 +96,16 @@ pub record Matched (model name buffer : List ℕ) (r : MatchAnswer) (after : Lis
   pub b : Slice
   pub learnt : match-name.Learnt lives (at-last m model, (at-last n name, (at-last b buffer, tt))) r (at-last m model, (at-last n name, (at-last b after, tt)))
 
--- a call of `sign` answered r, and the path then held the words `after`
-pub record Signed (model packet key path : List ℕ) (r : SignAnswer) (after : List ℕ) : Type 0 where
-  pub lives : Lfts 3
+-- a call of `sign` that was lent the buffers s answered r, and these then held what `after` says
+pub record Signed (model packet key : List ℕ) (s : Buffers) (r : SignAnswer) (after : Buffers) : Type 0 where
+  pub lives : Lfts 4
   pub m : Slice
   pub p : Slice
   pub k : Slice
+  pub b : Slice
   pub w : Slice
-  pub learnt : sign.Learnt lives (at-last m model, (at-last p packet, (at-last k key, (at-last w path, tt)))) r
-      (at-last m model, (at-last p packet, (at-last k key, (at-last w after, tt))))
+  pub learnt : sign.Learnt lives (at-last m model, (at-last p packet, (at-last k key, (at-last b (s .words), (at-last w (s .path), tt))))) r
+      (at-last m model, (at-last p packet, (at-last k key, (at-last b (after .words), (at-last w (after .path), tt)))))
 
 -- a call of `follow` answered r
 pub record Followed (model packet key path : List ℕ) (r : FollowAnswer) : Type 0 where
@@ -127,8 +133,8 @@ pub matched-is : {model name buffer after : List ℕ} {r : MatchAnswer} → Matc
     → _≡_ {A = Outcome} (record { answer = matchAnswerOf r; words = after }) (matchOutcome model name buffer)
 matched-is c = c .learnt
 
-pub signed-is : {model packet key path after : List ℕ} {r : SignAnswer} → Signed model packet key path r after
-    → _≡_ {A = SignOutcome} (record { answer = signAnswerOf r; buffers = record { path = after } }) (signOutcome model packet key (record { path = path }))
+pub signed-is : {model packet key : List ℕ} {s after : Buffers} {r : SignAnswer} → Signed model packet key s r after
+    → _≡_ {A = SignOutcome} (record { answer = signAnswerOf r; buffers = after }) (signOutcome model packet key s)
 signed-is c = c .learnt
 
 pub followed-is : {model packet key path : List ℕ} {r : FollowAnswer} → Followed model packet key path r
@@ -145,8 +151,8 @@ judge-asks-nothing lives m = tt
 pub match-asks-nothing : (lives : Lfts 3) (m n b : Slice) → match-name.Asked lives (m, (n, (b, tt)))
 match-asks-nothing lives m n b = tt
 
-pub sign-asks-nothing : (lives : Lfts 3) (m p k w : Slice) → sign.Asked lives (m, (p, (k, (w, tt))))
-sign-asks-nothing lives m p k w = tt
+pub sign-asks-nothing : (lives : Lfts 4) (m p k b w : Slice) → sign.Asked lives (m, (p, (k, (b, (w, tt)))))
+sign-asks-nothing lives m p k b w = tt
 
 pub follow-asks-nothing : (lives : Lfts 3) (m p k w : Slice) → follow.Asked lives (m, (p, (k, (w, tt))))
 follow-asks-nothing lives m p k w = tt
@@ -209,9 +215,19 @@ module _ {model name buffer after : List ℕ} where
   pub first-match : {v n : ℕ} → Matched model name buffer (matchings.Match v n) after → MatchedBy model name buffer v n after
   first-match {v} {n} c = rw (left c) (match-matched model name buffer v n (sym (answered c)))
 
-  -- the two words of a temporary Tag, suc i, are 0, and no more Tags are bound than are named
+  -- the three words of each Tag, suc i, say what it is bound to, where that starts in the name, and that it is from the packet
+  pub match-words : {v n : ℕ} (c : Matched model name buffer (matchings.Match v n) after) (i : ℕ) → i < maxTag
+      → wordsAt after i ≡ tagWords (bound (first-match c .match .bindings) (suc i))
+  match-words c = matched-at (first-match c)
+
+  pub match-origins : {v n : ℕ} (c : Matched model name buffer (matchings.Match v n) after) (t : ℕ) {d : Binding}
+      → bound (first-match c .match .bindings) t ≡ some d → (d .origin ≡ packetOrigin) × List·Memᴰ (d .component) (first-match c .components)
+  match-origins c = let by = first-match c in packet-bound (by .model) (by .components) (first-in _ (by .first-match))
+
+  -- those of a temporary Tag are 0, and no more Tags are bound than are named
   pub temporary-words-zero : {v n : ℕ} → Matched model name buffer (matchings.Match v n) after → (i : ℕ) → modelOf model .patternCount < suc i
-      → suc i ≤ maxTag → (getD after (i * 2) 0 ≡ 0) × (getD after (i * 2 + 1) 0 ≡ 0)
+      → suc i ≤ maxTag → wordsAt after i ≡ 0 ∷ 0 ∷ 0 ∷ []
+  unfolding tagWords
   temporary-words-zero c = temporary-words (first-match c)
 
   pub bound-at-most : {v n : ℕ} → Matched model name buffer (matchings.Match v n) after → n ≤ modelOf model .patternCount
@@ -225,55 +241,67 @@ buffer-unread {model} {name} {buffer} {other} {r = r} {q = q} l c d =
 
 -- ---- the signing call
 
--- what is lent to the call
-abbrev pub lent : List ℕ → Buffers
-lent path = record { path = path }
-
-module _ {model packet key path after : List ℕ} where
-  signed-answer : {r : SignAnswer} → Signed model packet key path r after → signAnswerOf r ≡ signOutcome model packet key (lent path) .answer
+module _ {model packet key : List ℕ} {s after : Buffers} where
+  signed-answer : {r : SignAnswer} → Signed model packet key s r after → signAnswerOf r ≡ signOutcome model packet key s .answer
   signed-answer c = ap (λ (o : SignOutcome). o .answer) (signed-is c)
 
-  path-left : {r : SignAnswer} → Signed model packet key path r after → after ≡ signOutcome model packet key (lent path) .buffers .path
-  path-left c = ap (λ (o : SignOutcome). o .buffers .path) (signed-is c)
+  buffers-left : {r : SignAnswer} → Signed model packet key s r after → after ≡ signOutcome model packet key s .buffers
+  buffers-left c = ap (λ (o : SignOutcome). o .buffers) (signed-is c)
 
-  -- a refused call leaves the path as it was, and so does "not allowed"
-  pub refused-keeps-path : {number at : ℕ} → Signed model packet key path (signings.Refused number at) after → after ≡ path
-  refused-keeps-path c = path-left c ∙ ap (λ (s : Buffers). s .path) (sign-refused-keeps model packet key (lent path) _ (sym (signed-answer c)))
+  -- a refused call leaves both buffers as they were, and so does "not allowed"
+  pub refused-keeps-buffers : {number at : ℕ} → Signed model packet key s (signings.Refused number at) after → after ≡ s
+  refused-keeps-buffers c = buffers-left c ∙ sign-refused-keeps model packet key s _ (sym (signed-answer c))
 
-  pub not-allowed-keeps-path : Signed model packet key path signings.NotAllowed after → after ≡ path
-  not-allowed-keeps-path c = path-left c ∙ ap (λ (s : Buffers). s .path) (not-allowed-keeps model packet key (lent path) (sym (signed-answer c)))
+  pub not-allowed-keeps-buffers : Signed model packet key s signings.NotAllowed after → after ≡ s
+  not-allowed-keeps-buffers c = buffers-left c ∙ not-allowed-keeps model packet key s (sym (signed-answer c))
 
-  -- a refusal is one of a model, a packet name, a key name or a path
-  pub sign-refusals : {number at : ℕ} → Signed model packet key path (signings.Refused number at) after → List·Memᴰ number signRefusals
-  sign-refusals c = sign-number model packet key (lent path) _ (sym (signed-answer c))
+  -- a refusal is one of a model, a packet name, a key name, a buffer or a path
+  pub sign-refusals : {number at : ℕ} → Signed model packet key s (signings.Refused number at) after → List·Memᴰ number signRefusals
+  sign-refusals c = sign-number model packet key s _ (sym (signed-answer c))
 
   -- "allowed" exactly when some packet match, and some key match that starts from its bindings, end at a node and at a signer which
-  -- that node lists, and there is room for the path
-  pub allowed-exactly : {r : SignAnswer} → Signed model packet key path r after
-      → ((p k : ℕ) × (r ≡ signings.Allowed p k)) ↔ (SomeAllowed model packet key × PathRoom packet key (lent path))
+  -- that node lists, and there is room for bindings and path
+  pub allowed-exactly : {r : SignAnswer} → Signed model packet key s r after
+      → ((p k : ℕ) × (r ≡ signings.Allowed p k)) ↔ (SomeAllowed model packet key × SignRoom packet key s)
   allowed-exactly {r} c = (
-    λ (p, k, e). sign-some model packet key (lent path) .0 (p, k, sym (signed-answer c) ∙ ap signAnswerOf e),
-    λ s. let (p, k, e) = sign-some model packet key (lent path) .1 s in (p, k, same-signing r _ (signed-answer c ∙ e)),
+    λ (p, k, e). sign-some model packet key s .0 (p, k, sym (signed-answer c) ∙ ap signAnswerOf e),
+    λ a. let (p, k, e) = sign-some model packet key s .1 a in (p, k, same-signing r _ (signed-answer c ∙ e)),
   )
 
   -- "not allowed" exactly when none do, and there is room
-  pub not-allowed-exactly : {r : SignAnswer} → Signed model packet key path r after
-      → (r ≡ signings.NotAllowed) ↔ (NoneAllowed model packet key × PathRoom packet key (lent path))
+  pub not-allowed-exactly : {r : SignAnswer} → Signed model packet key s r after
+      → (r ≡ signings.NotAllowed) ↔ (NoneAllowed model packet key × SignRoom packet key s)
   not-allowed-exactly {r} c = (
-    λ e. sign-none model packet key (lent path) .0 (sym (signed-answer c) ∙ ap signAnswerOf e),
-    λ s. same-signing r _ (signed-answer c ∙ sign-none model packet key (lent path) .1 s),
+    λ e. sign-none model packet key s .0 (sym (signed-answer c) ∙ ap signAnswerOf e),
+    λ a. same-signing r _ (signed-answer c ∙ sign-none model packet key s .1 a),
   )
 
-  -- the pair is the first: packet matches in order, for each the key matches in order; the path is its own, and later words stay
-  pub first-pair : {p k : ℕ} → Signed model packet key path (signings.Allowed p k) after
-      → SignedBy model packet key (lent path) p k (lent after)
-  first-pair {p} {k} c = rw (path-left c) (sign-allowed model packet key (lent path) p k (sym (signed-answer c)))
+  -- the pair is the first: packet matches in order, for each the key matches in order; bindings and path are its own, and later words stay
+  pub first-pair : {p k : ℕ} → Signed model packet key s (signings.Allowed p k) after → SignedBy model packet key s p k after
+  first-pair {p} {k} c = rw (buffers-left c) (sign-allowed model packet key s p k (sym (signed-answer c)))
 
--- the answer does not depend on what the path holds, only on its length
-pub path-unread : {model packet key path other after last : List ℕ} {r q : SignAnswer} → length path ≡ length other
-    → Signed model packet key path r after → Signed model packet key other q last → r ≡ q
-path-unread {model} {packet} {key} {r = r} {q = q} l c d =
-    same-signing r q (signed-answer c ∙ sign-by-length model packet key _ _ l ∙ sym (signed-answer d))
+  -- the three words of each Tag, suc i, say what it is bound to where the key's walk ended
+  pub pair-words : {p k : ℕ} (c : Signed model packet key s (signings.Allowed p k) after) (i : ℕ) → i < maxTag
+      → wordsAt (after .words) i ≡ tagWords (bound (first-pair c .pair .key .bindings) (suc i))
+  pair-words c = signed-at (first-pair c)
+
+  -- and that is of the name where it was first bound: a Tag that the packet bound keeps this, whether the key met it again or not
+  pub pair-origins : {p k : ℕ} (c : Signed model packet key s (signings.Allowed p k) after) (t : ℕ)
+      → let by = first-pair c in
+      FirstBound (by .packet-components) (by .key-components) (bound (by .pair .packet .bindings) t) (bound (by .pair .key .bindings) t)
+  pair-origins c = let by = first-pair c in first-bound (by .model) (by .packet-components) (by .key-components) (by .allowed)
+
+  -- those of a temporary Tag are 0
+  pub temporary-pair-words-zero : {p k : ℕ} → Signed model packet key s (signings.Allowed p k) after → (i : ℕ) → modelOf model .patternCount < suc i
+      → suc i ≤ maxTag → wordsAt (after .words) i ≡ 0 ∷ 0 ∷ 0 ∷ []
+  unfolding tagWords
+  temporary-pair-words-zero c = temporary-pair-words (first-pair c)
+
+-- the answer does not depend on what the buffers hold, only on their lengths
+pub buffers-unread : {model packet key : List ℕ} {s t after last : Buffers} {r q : SignAnswer} → length (s .words) ≡ length (t .words)
+    → length (s .path) ≡ length (t .path) → Signed model packet key s r after → Signed model packet key t q last → r ≡ q
+buffers-unread {model} {packet} {key} {r = r} {q = q} h l c d =
+    same-signing r q (signed-answer c ∙ sign-by-length model packet key _ _ h l ∙ sym (signed-answer d))
 
 -- ---- the following call
 
@@ -298,13 +326,14 @@ module _ {model packet key path : List ℕ} where
   )
 
   -- whoever made the path, accepted means allowed: a signing call with room enough says so
-  pub accepted-signs : {words after : List ℕ} {r : SignAnswer} → Followed model packet key path followings.Accepted
-      → PathRoom packet key (lent words) → Signed model packet key words r after → (p k : ℕ) × (r ≡ signings.Allowed p k)
-  accepted-signs c enough s = allowed-exactly s .1 (accepted-allowed model packet key path (sym (followed-is c)), enough)
+  pub accepted-signs : {s after : Buffers} {r : SignAnswer} → Followed model packet key path followings.Accepted
+      → SignRoom packet key s → Signed model packet key s r after → (p k : ℕ) × (r ≡ signings.Allowed p k)
+  accepted-signs c enough d = allowed-exactly d .1 (accepted-allowed model packet key path (sym (followed-is c)), enough)
 
 -- the path of an allowed answer is accepted: the first words after it, one for each component
-pub signed-accepted : {model packet key path after : List ℕ} {p k : ℕ} {r : FollowAnswer} (c : Signed model packet key path (signings.Allowed p k) after)
-    → let by = first-pair c in Followed model packet key (take (length (by .packet-components) + length (by .key-components)) after) r
+pub signed-accepted : {model packet key : List ℕ} {s after : Buffers} {p k : ℕ} {r : FollowAnswer}
+    (c : Signed model packet key s (signings.Allowed p k) after)
+    → let by = first-pair c in Followed model packet key (take (length (by .packet-components) + length (by .key-components)) (after .path)) r
     → r ≡ followings.Accepted
 signed-accepted {r = r} c f = same-following r _ (followed-is f ∙ path-accepted (first-pair c))
 
@@ -328,24 +357,24 @@ some-path-accepted {model} {packet} {key} a =
 
 -- ---- the suggesting call
 
--- what the signing call, with room for the path, says of each certificate, one after the other: not to those before, but to the one with index i
+-- what the signing call, with room, says of each certificate, one after the other: not to those before, but to the one with index i
 pub record FirstBySigning (model packet list : List ℕ) (i : ℕ) : Type 0 where
   pub before : List (List ℕ)
   pub key : List ℕ
   pub behind : List (List ℕ)
   pub list-is : list ≡ joined (before ++ (key ∷ behind))
   pub index : length before ≡ i
-  pub earlier : {k path after : List ℕ} {r : SignAnswer} → List·Memᴰ k before → PathRoom packet k (lent path)
-      → Signed model packet k path r after → r ≡ signings.NotAllowed
-  pub allowed : {path after : List ℕ} {r : SignAnswer} → PathRoom packet key (lent path) → Signed model packet key path r after
+  pub earlier : {k : List ℕ} {s after : Buffers} {r : SignAnswer} → List·Memᴰ k before → SignRoom packet k s → Signed model packet k s r after
+      → r ≡ signings.NotAllowed
+  pub allowed : {s after : Buffers} {r : SignAnswer} → SignRoom packet key s → Signed model packet key s r after
       → (p k : ℕ) × (r ≡ signings.Allowed p k)
 
 -- or not to any
 pub record NoneBySigning (model packet list : List ℕ) : Type 0 where
   pub keys : List (List ℕ)
   pub list-is : list ≡ joined keys
-  pub none-allowed : {k path after : List ℕ} {r : SignAnswer} → List·Memᴰ k keys → PathRoom packet k (lent path)
-      → Signed model packet k path r after → r ≡ signings.NotAllowed
+  pub none-allowed : {k : List ℕ} {s after : Buffers} {r : SignAnswer} → List·Memᴰ k keys → SignRoom packet k s → Signed model packet k s r after
+      → r ≡ signings.NotAllowed
 
 module _ {model packet list : List ℕ} where
   -- a refusal is one of a model, a packet name or a list
@@ -389,12 +418,12 @@ module _ {model packet list : List ℕ} where
 
 -- ---- all calls: elements that change nothing, and elements that are refused
 
--- two models have the same matches, signing answers and suggestions and leave the same words, path and all, given the same names, equal buffers and
--- the same list; and the same paths are accepted
+-- two models have the same matches, signing answers and suggestions and leave the same words, bindings with their origins and paths, given the same
+-- names, equal buffers and the same list; and the same paths are accepted
 pub record SameAnswers (a b : List ℕ) : Type 0 where
   pub matched : {name buffer after last : List ℕ} {r q : MatchAnswer} → Matched a name buffer r after → Matched b name buffer q last
       → (r ≡ q) × (after ≡ last)
-  pub signed : {packet key path after last : List ℕ} {r q : SignAnswer} → Signed a packet key path r after → Signed b packet key path q last
+  pub signed : {packet key : List ℕ} {s after last : Buffers} {r q : SignAnswer} → Signed a packet key s r after → Signed b packet key s q last
       → (r ≡ q) × (after ≡ last)
   pub followed : {packet key path : List ℕ} {r q : FollowAnswer} → Followed a packet key path r → Followed b packet key path q → r ≡ q
   pub suggested : {packet list : List ℕ} {r q : SuggestAnswer} → Suggested a packet list r → Suggested b packet list q → r ≡ q
@@ -408,7 +437,8 @@ pub record SameCalls (a b : List ℕ) : Type 0 where
 pub record RefusedCalls (number at : ℕ) (b : List ℕ) : Type 0 where
   pub judged : {r : Verdict} → Judged b r → r ≡ verdicts.Refused number at
   pub matched : {name buffer after : List ℕ} {r : MatchAnswer} → Matched b name buffer r after → (r ≡ matchings.Refused number at) × (after ≡ buffer)
-  pub signed : {packet key path after : List ℕ} {r : SignAnswer} → Signed b packet key path r after → (r ≡ signings.Refused number at) × (after ≡ path)
+  pub signed : {packet key : List ℕ} {s after : Buffers} {r : SignAnswer} → Signed b packet key s r after
+      → (r ≡ signings.Refused number at) × (after ≡ s)
   pub followed : {packet key path : List ℕ} {r : FollowAnswer} → Followed b packet key path r → r ≡ followings.Refused number at
   pub suggested : {packet list : List ℕ} {r : SuggestAnswer} → Suggested b packet list r → r ≡ suggestings.Refused number at
 
@@ -418,9 +448,9 @@ same-answers s =
       matched = λ {name} {buffer} {r = r} {q = q} c d.
           let e = matched-is c ∙ s .matched name buffer ∙ sym (matched-is d) in
           (same-matching r q (ap (λ (o : Outcome). o .answer) e), ap (λ (o : Outcome). o .words) e);
-      signed = λ {packet} {key} {path} {r = r} {q = q} c d.
-          let e = signed-is c ∙ s .signed packet key (record { path = path }) ∙ sym (signed-is d) in
-          (same-signing r q (ap (λ (o : SignOutcome). o .answer) e), ap (λ (o : SignOutcome). o .buffers .path) e);
+      signed = λ {packet} {key} {s = t} {r = r} {q = q} c d.
+          let e = signed-is c ∙ s .signed packet key t ∙ sym (signed-is d) in
+          (same-signing r q (ap (λ (o : SignOutcome). o .answer) e), ap (λ (o : SignOutcome). o .buffers) e);
       followed = λ {packet} {key} {path} {r} {q} c d. same-following r q (followed-is c ∙ s .followed packet key path ∙ sym (followed-is d));
       suggested = λ {packet} {list} {r} {q} c d. same-suggesting r q (suggested-is c ∙ s .suggested packet list ∙ sym (suggested-is d));
     }
@@ -440,9 +470,9 @@ refused-calls s =
       matched = λ {name} {buffer} {r = r} c.
           let e = matched-is c ∙ s .matched name buffer in
           (same-matching r _ (ap (λ (o : Outcome). o .answer) e), ap (λ (o : Outcome). o .words) e);
-      signed = λ {packet} {key} {path} {r = r} c.
-          let e = signed-is c ∙ s .signed packet key (record { path = path }) in
-          (same-signing r _ (ap (λ (o : SignOutcome). o .answer) e), ap (λ (o : SignOutcome). o .buffers .path) e);
+      signed = λ {packet} {key} {s = t} {r = r} c.
+          let e = signed-is c ∙ s .signed packet key t in
+          (same-signing r _ (ap (λ (o : SignOutcome). o .answer) e), ap (λ (o : SignOutcome). o .buffers) e);
       followed = λ {packet} {key} {path} {r} c. same-following r _ (followed-is c ∙ s .followed packet key path);
       suggested = λ {packet} {list} {r} c. same-suggesting r _ (suggested-is c ∙ s .suggested packet list);
     }

@@ -43,7 +43,7 @@ pub enum SuggestAnswer {
     Refused { number: u32, at: u32 },
 }
 
-// Matches a packet name. On a match the first 256 words of the buffer are each Tag's start and length; else it is kept.
+// Matches a packet name. On a match the first 384 words of the buffer are each Tag's start, length and origin; else it is kept.
 pub fn match_name(model: &[u8], name: &[u8], buffer: &mut [u32]) -> MatchAnswer
     ensures { λ r. ⌜ record { answer = matchAnswerOf r; words = now (buffer .exit) } ≡
         matchOutcome (now (model .entry)) (now (name .entry)) (now (buffer .entry)) ⌝ }
@@ -74,15 +74,27 @@ pub fn match_name(model: &[u8], name: &[u8], buffer: &mut [u32]) -> MatchAnswer
     }
 }
 
-// Whether a key name may sign a packet name. If so, the path begins with the ordinals of the edges crossed, the packet's and then the key's; else
-// it is kept.
-pub fn sign<'a>(model: &[u8], packet: &'a [u8], key: &'a [u8], path: &mut [u16]) -> SignAnswer
-    ensures { λ r. ⌜ record { answer = signAnswerOf r; buffers = record { path = now (path .exit) } } ≡
-        signOutcome (now (model .entry)) (now (packet .entry)) (now (key .entry)) (record { path = now (path .entry) }) ⌝ }
+// Whether a key name may sign a packet name. If so, the first 384 words of the buffer are each Tag's start, length and origin, and the path begins
+// with the ordinals of the edges crossed, the packet's and then the key's; else both are kept.
+pub fn sign<'a>(
+    model: &[u8],
+    packet: &'a [u8],
+    key: &'a [u8],
+    buffer: &mut [u32],
+    path: &mut [u16],
+) -> SignAnswer
+    ensures { λ r. ⌜ record { answer = signAnswerOf r; buffers = record { words = now (buffer .exit); path = now (path .exit) } } ≡
+        signOutcome (now (model .entry)) (now (packet .entry)) (now (key .entry)) (record { words = now (buffer .entry); path = now (path .entry) }) ⌝ }
 {
     match lvs_verdict::judge_inputs(model, packet, key) {
         Inputs::Refused { number, at } => SignAnswer::Refused { number, at },
         Inputs::Good { packet: p, key: k } => {
+            if buffer.len() < lvs_spec::BINDING_WORDS {
+                return SignAnswer::Refused {
+                    number: SHORT_BUFFER,
+                    at: 0,
+                };
+            }
             if path.len() < p.count + k.count {
                 return SignAnswer::Refused {
                     number: SHORT_PATH,
@@ -91,9 +103,22 @@ pub fn sign<'a>(model: &[u8], packet: &'a [u8], key: &'a [u8], path: &mut [u16])
             }
             let mut places = [0u32; PLACE_WORDS];
             lvs_edges::nodes::node_places(model, &mut places);
-            match lvs_walk::find_pair(model, &places, packet, p.start, key, k.start, path) {
+            let mut slots = [0u32; SLOT_WORDS];
+            match lvs_walk::find_pair(
+                model,
+                &places,
+                packet,
+                p.start,
+                key,
+                k.start,
+                &mut slots,
+                path,
+            ) {
                 Found::Nothing => SignAnswer::NotAllowed,
-                Found::At(packet, key) => SignAnswer::Allowed { packet, key },
+                Found::At(v, w) => {
+                    lvs_bindings::write_words(packet, &slots, buffer);
+                    SignAnswer::Allowed { packet: v, key: w }
+                }
             }
         }
     }

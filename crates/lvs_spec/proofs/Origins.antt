@@ -55,15 +55,11 @@ walked m origin cs x j i =
     walk-keeps m (λ y. Walked origin cs (getD (x .bindings) j none) (getD (y .bindings) j none)) (rowOf origin cs)
     (λ c k z n e y _ h w. walked-changed j (row-from origin cs k) (cross-changed m c z n e h) w) x (keeps refl) i
 
-module _ (m : Model) (ps ks : List Component) where
+module _ (m : Model) (ps : List Component) where
   packet-walked : {x : Match} (j : ℕ) → List·Memᴰ x (packetMatches m ps) → Walked packetOrigin ps none (getD (x .bindings) j none)
   unfolding packetMatches packetTrace matches begin noBindings
   packet-walked {x} j i =
       subst (λ q. Walked packetOrigin ps q (getD (x .bindings) j none)) (none-there maxTag j) (walked m packetOrigin ps (begin m noBindings) j i)
-
-  key-walked : (x : Match) {y : Match} (j : ℕ) → List·Memᴰ y (keyMatches m ks x) → Walked keyOrigin ks (getD (x .bindings) j none) (getD (y .bindings) j none)
-  unfolding keyMatches keyTrace matches begin
-  key-walked x j i = walked m keyOrigin ks (begin m (x .bindings)) j i
 
   -- in a match of the packet name, every binding is the packet's
   pub packet-bound : {x : Match} → List·Memᴰ x (packetMatches m ps) → (t : ℕ) {d : Binding} → bound (x .bindings) t ≡ some d
@@ -77,6 +73,11 @@ module _ (m : Model) (ps ks : List Component) where
       go (binds b _ f o k) =
           let same : b ≡ d = cc in
           subst (λ (d : Binding). (d .origin ≡ packetOrigin) × List·Memᴰ (d .component) ps) same (o, k)
+
+module _ (m : Model) (ps ks : List Component) where
+  key-walked : (x : Match) {y : Match} (j : ℕ) → List·Memᴰ y (keyMatches m ks x) → Walked keyOrigin ks (getD (x .bindings) j none) (getD (y .bindings) j none)
+  unfolding keyMatches keyTrace matches begin
+  key-walked x j i = walked m keyOrigin ks (begin m (x .bindings)) j i
 
   -- in an allowed pair, every binding is of the name where its Tag was first bound
   pub first-bound : {x y : Match} → Allowed m ps ks x y → (t : ℕ) → FirstBound ps ks (bound (x .bindings) t) (bound (y .bindings) t)
@@ -96,6 +97,6 @@ module _ (m : Model) (ps ks : List Component) where
           rw (e, f) (by-key refl (ap (λ (d : Binding). d .origin) (sym same) ∙ o) (Memᴰ·cast (ap (λ (d : Binding). d .component) (sym same)) i))
       go (some d) (some c) e f (binds b u k o i) = clash (cc)
       go (some d) (some c) e f (keeps k) =
-          let (o, i) = packet-bound (a .packet-match) (suc j) e in
+          let (o, i) = packet-bound m ps (a .packet-match) (suc j) e in
           let same : c ≡ d = cc in
           rw (e, f, same) (by-packet refl o i)

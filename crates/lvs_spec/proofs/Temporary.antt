@@ -17,14 +17,15 @@ use Rattle.lvs_spec.specs.Verdict.{Function, eq, eqType, isValidId, isVa
 use Rattle.lvs_spec.specs.Names.{Component}
 use Rattle.lvs_spec.specs.Walk.{Binding, packetRow, keyRow, Bindings, noBindings, bound, bindTag, boundTo, argumentIn, holds, callHolds, termHolds}
 use Rattle.lvs_spec.specs.Walk.{constraintHolds, crosses, bindingsAfter, Match, begin, matches, packetTrace, keyTrace, packetMatches, keyMatches}
-use Rattle.lvs_spec.specs.Answers.{tagWords, boundCount}
+use Rattle.lvs_spec.specs.Answers.{tagWords, boundCount, Buffers}
 use Rattle.lvs_spec.specs.Demands.{wordsAt, OnlyNamed}
 use Rattle.lvs_spec.proofs.Lists.{clash, first-in}
 use Rattle.lvs_spec.proofs.Trace.{walk-keeps}
 use Rattle.lvs_spec.proofs.Usable.{usable-model}
 use Rattle.lvs_spec.proofs.Matching.{MatchedBy}
-use Rattle.lvs_spec.proofs.Buffer.{words-at}
-use Rattle.lvs_spec.proofs.Bindings.{Changed, stays, fills, after-changed, cross-changed, none-there, packet-bindings}
+use Rattle.lvs_spec.proofs.Signing.{SignedBy}
+use Rattle.lvs_spec.proofs.Buffer.{matched-at, signed-at}
+use Rattle.lvs_spec.proofs.Bindings.{Changed, stays, fills, after-changed, cross-changed, none-there}
 
 -- ---- only named Tags are ever bound
 
@@ -117,13 +118,17 @@ module _ {b name buffer after : List ℕ} {v n : ℕ} (by : MatchedBy b name buf
 
   -- the words of a temporary Tag, suc i, are 0
   pub temporary-words : (i : ℕ) → modelOf b .patternCount < suc i → suc i ≤ maxTag → wordsAt after i ≡ tagWords none
-  unfolding bound
-  temporary-words i h low =
-      let s = by .match .bindings in
-      let count = packet-bindings (by .model) (by .components) (first-in _ (by .first-match)) in
-      rw (by .words-are) (words-at s (drop bindingWords buffer) i (omega (arith, count)) ∙ ap tagWords (match-named .temporary (suc i) h))
+  temporary-words i h low = matched-at by i low ∙ ap tagWords (match-named .temporary (suc i) h)
 
   -- no more Tags are bound than are named
   pub bound-few : n ≤ modelOf b .patternCount
   unfolding bound
   bound-few = rw (← by .count) (few (by .match .bindings) (modelOf b .patternCount) (λ i l. match-named .temporary (suc i) (omega arith)))
+
+-- and so are they after "allowed"
+pub temporary-pair-words : {b packet key : List ℕ} {s : Buffers} {p k : ℕ} {after : Buffers} → SignedBy b packet key s p k after → (i : ℕ)
+    → modelOf b .patternCount < suc i → suc i ≤ maxTag → wordsAt (after .words) i ≡ tagWords none
+temporary-pair-words {b} by i h low =
+    let a = by .allowed in
+    let named = key-named (by .model) (by .packet-components) (by .key-components) (a .packet-match) (a .key-match) in
+    signed-at by i low ∙ ap tagWords (named .temporary (suc i) (rw (usable-model b (by .inputs .usable-is)) at h))

@@ -1,6 +1,7 @@
 -- `lvs::match_name` meets its contract: what the callees answered says which case of `matchOutcome` it is. Assumes nothing.
 use borrow.Author.Needs.{needs}
 use mathlib.Core.Path.{_≡_, refl, sym, ap, _∙_}
+use mathlib.Core.List.{[]}
 use Rattle.lvs_spec.specs.Verdict.{Verdict, verdict}
 use Rattle.lvs_spec.specs.Names.{goodName, nameReading}
 use Rattle.lvs_spec.specs.Answers.{matchRefused}
@@ -81,7 +82,7 @@ returns-5 c =
     let a = began f .args in
     let w = c .before .before .write-words .ensures in
     match-some (a .model .now) (a .name .now) (a .buffer .now) (accepted (judged f)) (good f) (x .before .before .before .before .before .if1 .left)
-    (found-match (x .find-match .ensures) (c .before .before .before .before .before .before .node .given .1)) (w .0) (w .1)
+    (found-match (x .find-match .ensures) (c .before .before .before .before .before .before .node .given .1)) (w .counted []) (w .words-are [])
 
 pub match-name-spec : {M : Type 1} → statement M
 match-name-spec =
