@@ -32,12 +32,12 @@ use Rattle.lvs_spec.specs.Answers.{tagWords, Outcome, matchRefused, matchOutcom
 use Rattle.lvs_spec.specs.Certificates.{suggestAnswer}
 use Rattle.lvs_spec.specs.Gaps.{bare, Inserted, gapPlace, Stands}
 use Rattle.lvs_spec.specs.Demands.{modelRefusals, matchRefusals, followRefusals, signRefusals, suggestRefusals, SomeMatch, NoMatch}
-use Rattle.lvs_spec.specs.Demands.{wordsAt, FirstBound, SignRoom, SomeAllowed, NoneAllowed, SomeFollowed, NoneFollowed}
+use Rattle.lvs_spec.specs.Demands.{wordsAt, FirstBound, ShortWords, ShortPath, SignRoom, SomeAllowed, NoneAllowed, SomeFollowed, NoneFollowed}
 use Rattle.lvs_spec.specs.Demands.{MalformedAt, FaultWithin, joined, FirstAllowed, NoCertificate, Alike, AllRefuse, unnamed, counted}
 use Rattle.lvs_spec.proofs.Refusals.{verdict-number, refused-malformed}
 use Rattle.lvs_spec.proofs.Reading.{malformed-refused, fault-within}
 use Rattle.lvs_spec.proofs.Matching.{MatchedBy, match-matched, match-some, match-none, match-number}
-use Rattle.lvs_spec.proofs.Signing.{SignedBy, sign-allowed, sign-some, sign-none, sign-number}
+use Rattle.lvs_spec.proofs.Signing.{SignedBy, sign-allowed, sign-some, sign-none, sign-number, sign-short-words, sign-short-path}
 use Rattle.lvs_spec.proofs.Following.{follow-some, follow-none, follow-number, accepted-allowed, some-path, path-accepted}
 use Rattle.lvs_spec.proofs.Suggesting.{suggest-number, suggest-first, suggest-none}
 use Rattle.lvs_spec.proofs.Buffer.{refused-keeps, no-match-keeps, answer-by-length, matched-at, sign-refused-keeps, not-allowed-keeps}
@@ -258,6 +258,20 @@ module _ {model packet key : List ℕ} {s after : Buffers} where
   -- a refusal is one of a model, a packet name, a key name, a buffer or a path
   pub sign-refusals : {number at : ℕ} → Signed model packet key s (signings.Refused number at) after → List·Memᴰ number signRefusals
   sign-refusals c = sign-number model packet key s _ (sym (signed-answer c))
+
+  -- 27 exactly when no rule refuses model and names and there are too few words for the bindings; 34 exactly when there are enough of these, and too
+  -- few for the path
+  pub short-words-exactly : {r : SignAnswer} → Signed model packet key s r after → (r ≡ signings.Refused 27 0) ↔ ShortWords model packet key s
+  short-words-exactly {r} c = (
+    λ e. sign-short-words model packet key s .0 (sym (signed-answer c) ∙ ap signAnswerOf e),
+    λ w. same-signing r _ (signed-answer c ∙ sign-short-words model packet key s .1 w),
+  )
+
+  pub short-path-exactly : {r : SignAnswer} → Signed model packet key s r after → (r ≡ signings.Refused 34 0) ↔ ShortPath model packet key s
+  short-path-exactly {r} c = (
+    λ e. sign-short-path model packet key s .0 (sym (signed-answer c) ∙ ap signAnswerOf e),
+    λ w. same-signing r _ (signed-answer c ∙ sign-short-path model packet key s .1 w),
+  )
 
   -- "allowed" exactly when some packet match, and some key match that starts from its bindings, end at a node and at a signer which
   -- that node lists, and there is room for bindings and path

@@ -74,22 +74,22 @@ pub fn match_name(model: &[u8], name: &[u8], buffer: &mut [u32]) -> MatchAnswer
     }
 }
 
-// Whether a key name may sign a packet name. If so, the first 384 words of the buffer are each Tag's start, length and origin, and the path begins
-// with the ordinals of the edges crossed, the packet's and then the key's; else both are kept.
+// Whether a key name may sign a packet name. If so, the first 384 words are each Tag's start, length and origin, and the path begins with the
+// ordinals of the edges crossed, the packet's and then the key's; else both are kept.
 pub fn sign<'a>(
     model: &[u8],
     packet: &'a [u8],
     key: &'a [u8],
-    buffer: &mut [u32],
+    words: &mut [u32],
     path: &mut [u16],
 ) -> SignAnswer
-    ensures { λ r. ⌜ record { answer = signAnswerOf r; buffers = record { words = now (buffer .exit); path = now (path .exit) } } ≡
-        signOutcome (now (model .entry)) (now (packet .entry)) (now (key .entry)) (record { words = now (buffer .entry); path = now (path .entry) }) ⌝ }
+    ensures { λ r. ⌜ record { answer = signAnswerOf r; buffers = record { words = now (words .exit); path = now (path .exit) } } ≡
+        signOutcome (now (model .entry)) (now (packet .entry)) (now (key .entry)) (record { words = now (words .entry); path = now (path .entry) }) ⌝ }
 {
     match lvs_verdict::judge_inputs(model, packet, key) {
         Inputs::Refused { number, at } => SignAnswer::Refused { number, at },
         Inputs::Good { packet: p, key: k } => {
-            if buffer.len() < lvs_spec::BINDING_WORDS {
+            if words.len() < lvs_spec::BINDING_WORDS {
                 return SignAnswer::Refused {
                     number: SHORT_BUFFER,
                     at: 0,
@@ -116,7 +116,7 @@ pub fn sign<'a>(
             ) {
                 Found::Nothing => SignAnswer::NotAllowed,
                 Found::At(v, w) => {
-                    lvs_bindings::write_words(packet, &slots, buffer);
+                    lvs_bindings::write_words(packet, &slots, words);
                     SignAnswer::Allowed { packet: v, key: w }
                 }
             }

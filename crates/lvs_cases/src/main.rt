@@ -6,7 +6,7 @@
 //
 //     V  model                         accepted NODES | refused NUMBER AT
 //     M  model, packet name, words     match NODE BOUND | no match | refused NUMBER AT, then the words
-//     S  model, two names, path        allowed PACKET KEY | not allowed | refused NUMBER AT, then the path
+//     S  model, two names, words, path allowed PACKET KEY | not allowed | refused NUMBER AT, then the words and the path
 //     P  model, two names, path        accepted | no | refused NUMBER AT
 //     C  model, packet name, list      certificate INDEX | none | refused NUMBER AT
 //     W  numbers, texts, output        written BYTES | refused NUMBER AT, then the output

@@ -8,12 +8,9 @@ use crate::output;
 use crate::turn;
 use crate::turn::Turn;
 use crate::words;
+use crate::words::WORD_BYTES;
+use crate::words::WORDS;
 use lvs::MatchAnswer;
-
-// The longest list of words.
-const WORDS: usize = 1024;
-
-const WORD_BYTES: usize = 4096;
 
 pub fn answer(space: &mut Buffer, input: Input, model: &[u8], out: &mut Buffer, used: usize) -> Turn
     requires { ⌜ (input .end ≤ 65536) × (used ≤ 65536) ⌝ }

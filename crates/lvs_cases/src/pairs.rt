@@ -1,4 +1,4 @@
-// `S`, whether a key name may sign a packet name, and the path; and `P`, whether a path shows that.
+// `S`, whether a key name may sign a packet name, with bindings and path; and `P`, whether a path shows that.
 ghost use Prim.Native.Nat.{_≤_};
 use crate::Buffer;
 use crate::NAME_BYTES;
@@ -8,13 +8,11 @@ use crate::output;
 use crate::turn;
 use crate::turn::Turn;
 use crate::words;
+use crate::words::PATH;
+use crate::words::WORD_BYTES;
+use crate::words::WORDS;
 use lvs::SignAnswer;
 use lvs_follow::FollowAnswer;
-
-// The longest path.
-const PATH: usize = 2048;
-
-const PATH_BYTES: usize = 4096;
 
 pub enum Call {
     Sign,
@@ -71,7 +69,58 @@ fn with_names<'a>(
     requires { ⌜ (input .end ≤ 65536) × (used ≤ 65536) ⌝ }
     ensures { λ r. ⌜ (r .input .end ≤ 65536) × (r .used ≤ 65536) ⌝ }
 {
-    let mut bytes = [0u8; PATH_BYTES];
+    match call {
+        Call::Sign => answer_sign(space, input, model, packet, key, out, used),
+        Call::Follow => answer_follow(space, input, model, packet, key, out, used),
+    }
+}
+
+fn answer_sign<'a>(
+    space: &mut Buffer,
+    input: Input,
+    model: &[u8],
+    packet: &'a [u8],
+    key: &'a [u8],
+    out: &mut Buffer,
+    used: usize,
+) -> Turn
+    requires { ⌜ (input .end ≤ 65536) × (used ≤ 65536) ⌝ }
+    ensures { λ r. ⌜ (r .input .end ≤ 65536) × (r .used ≤ 65536) ⌝ }
+{
+    let mut bytes = [0u8; WORD_BYTES];
+    let mut words = [0u32; WORDS];
+    let field = words::take_words(space, input, &mut bytes, &mut words);
+    let n = field.count;
+    let behind = field.input;
+    if !field.is_whole {
+        return turn::broken(behind, used);
+    }
+    with_words(
+        space,
+        behind,
+        model,
+        packet,
+        key,
+        &mut words[..n],
+        out,
+        used,
+    )
+}
+
+fn with_words<'a>(
+    space: &mut Buffer,
+    input: Input,
+    model: &[u8],
+    packet: &'a [u8],
+    key: &'a [u8],
+    words: &mut [u32],
+    out: &mut Buffer,
+    used: usize,
+) -> Turn
+    requires { ⌜ (input .end ≤ 65536) × (used ≤ 65536) ⌝ }
+    ensures { λ r. ⌜ (r .input .end ≤ 65536) × (r .used ≤ 65536) ⌝ }
+{
+    let mut bytes = [0u8; WORD_BYTES];
     let mut path = [0u16; PATH];
     let field = words::take_path(space, input, &mut bytes, &mut path);
     let n = field.count;
@@ -79,33 +128,44 @@ fn with_names<'a>(
     if !field.is_whole {
         return turn::broken(behind, used);
     }
-    let at = put_answer(call, model, packet, key, &mut path[..n], out, used);
+    let at = put_signing(model, packet, key, words, &mut path[..n], out, used);
     turn::whole(behind, output::put(out, at, b"\n"))
 }
 
-fn put_answer<'a>(
-    call: Call,
+fn answer_follow<'a>(
+    space: &mut Buffer,
+    input: Input,
     model: &[u8],
     packet: &'a [u8],
     key: &'a [u8],
-    path: &mut [u16],
     out: &mut Buffer,
     used: usize,
-) -> usize
-    requires { ⌜ used ≤ 65536 ⌝ }
-    ensures { λ r. ⌜ r ≤ 65536 ⌝ }
+) -> Turn
+    requires { ⌜ (input .end ≤ 65536) × (used ≤ 65536) ⌝ }
+    ensures { λ r. ⌜ (r .input .end ≤ 65536) × (r .used ≤ 65536) ⌝ }
 {
-    match call {
-        Call::Sign => put_signing(model, packet, key, path, out, used),
-        Call::Follow => put_follow(out, used, lvs_follow::follow(model, packet, key, path)),
+    let mut bytes = [0u8; WORD_BYTES];
+    let mut path = [0u16; PATH];
+    let field = words::take_path(space, input, &mut bytes, &mut path);
+    let n = field.count;
+    let behind = field.input;
+    if !field.is_whole {
+        return turn::broken(behind, used);
     }
+    let at = put_follow(
+        out,
+        used,
+        lvs_follow::follow(model, packet, key, &path[..n]),
+    );
+    turn::whole(behind, output::put(out, at, b"\n"))
 }
 
-// The call's answer and the whole path after it.
+// The call's answer, and all words of both buffers after it.
 fn put_signing<'a>(
     model: &[u8],
     packet: &'a [u8],
     key: &'a [u8],
+    words: &mut [u32],
     path: &mut [u16],
     out: &mut Buffer,
     used: usize,
@@ -113,9 +173,10 @@ fn put_signing<'a>(
     requires { ⌜ used ≤ 65536 ⌝ }
     ensures { λ r. ⌜ r ≤ 65536 ⌝ }
 {
-    let answer = lvs::sign(model, packet, key, path);
+    let answer = lvs::sign(model, packet, key, words, path);
     let at = put_sign(out, used, answer);
-    output::put_path(out, at, path)
+    let middle = output::put_words(out, at, words);
+    output::put_path(out, middle, path)
 }
 
 fn put_sign(out: &mut Buffer, used: usize, answer: SignAnswer) -> usize

@@ -7,6 +7,13 @@ use crate::input;
 use crate::input::Field;
 use crate::input::Input;
 
+// The longest list of binding words, and of path words, in bytes; and how many words that are.
+pub const WORD_BYTES: usize = 4096;
+
+pub const WORDS: usize = 1024;
+
+pub const PATH: usize = 2048;
+
 // Takes a field of words, and answers how many there are. One that ends within a word is not whole.
 pub fn take_words(space: &mut Buffer, input: Input, bytes: &mut [u8], words: &mut [u32]) -> Field
     requires { ⌜ input .end ≤ 65536 ⌝ }

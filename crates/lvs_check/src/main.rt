@@ -87,8 +87,12 @@ fn answer_request(model: &[u8], k: u64) -> bool {
     }
     let n = p.count;
     let m = q.count;
+    let mut words = [0u32; lvs_spec::BINDING_WORDS];
     let mut path = [0u16; lvs_spec::PATH_WORDS];
-    print_answer(k, lvs::sign(model, &packet[..n], &key[..m], &mut path));
+    print_answer(
+        k,
+        lvs::sign(model, &packet[..n], &key[..m], &mut words, &mut path),
+    );
     true
 }
 

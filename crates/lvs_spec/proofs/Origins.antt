@@ -45,8 +45,8 @@ module _ {origin : ℕ} {cs : List Component} {before : Option Binding} where
       → Changed count s b r → Walked origin cs before (getD s j none) → Walked origin cs before (getD r j none)
   walked-changed j q (stays k) w = subst (λ t. Walked origin cs before (getD t j none)) (sym k) w
   walked-changed {s = s} {b = b} j (o, i) (fills n l u k) w = subst (λ t. Walked origin cs before (getD t j none)) (sym k) (
-    ⊎-elim (λ e. subst (Walked origin cs before) (sym e) w) (λ (e, f). fill o i (ap (λ n. getD s n none) e ∙ u) f w) (set-at s n j b)
-  )
+      ⊎-elim (λ e. subst (Walked origin cs before) (sym e) w) (λ (e, f). fill o i (ap (λ n. getD s n none) e ∙ u) f w) (set-at s n j b)
+      )
 
 -- a whole walk with the components of a name
 walked : (m : Model) (origin : ℕ) (cs : List Component) (x : Match) {y : Match} (j : ℕ) → List·Memᴰ y (matches m (rowOf origin cs) x)

@@ -17,7 +17,7 @@ abbrev began : tie.After-p → tie.Start
 began c = start (c .before .before)
 
 abbrev lent : tie.Start → Buffers
-lent s = record { words = s .args .buffer .now; path = s .args .path .now }
+lent s = record { words = s .args .words .now; path = s .args .path .now }
 
 good : (c : tie.After-p)
     → let a = began c .args in GoodInputs (a .model .now) (a .packet .now) (a .key .now) (c .p .given .0 .0) (c .p .given .0 .1 .0)
