@@ -271,7 +271,7 @@ def pair_bindings(packet, packet_tags, key, key_tags, named=128):
 
 
 def matched(at, *bound, behind=()):
-    """The line of a match: its node, then (Tag, start, length) of each bound Tag, all other words 0, and the words after the first 384."""
+    """The line of a match: its node, how many Tags are bound, their words, from (Tag, start, length) of each, and the words after the first 384."""
     return f"match {at} {len(bound)}" + words_line([*binding_words(bound), *behind])
 
 

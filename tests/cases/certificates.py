@@ -391,7 +391,10 @@ def fields(case):
 
 def as_lists(cases, is_twice=True):
     """Each pair of names that these cases sign, as a list with that key alone, and twice."""
-    pairs = {tuple(fields(case))[:3]: (what, line) for what, case, line in cases if case[:1] == b"S"}
+    pairs = {}
+    for what, case, line in cases:
+        if case[:1] == b"S":
+            pairs.setdefault(tuple(fields(case))[:3], (what, line))
     for (of, packet, key), (what, line) in pairs.items():
         assert line.startswith(("not allowed", "allowed"))
         answer = "none" if line.startswith("not") else certificate(0)

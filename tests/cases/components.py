@@ -271,8 +271,6 @@ def dates():
 
 # through the calls: how a component was compared is not seen in any answer
 
-WORDS = list(range(1, 385))  # what a buffer holds before a match
-
 
 def variants(size):
     """A component, and those that differ from it in one thing."""
@@ -324,14 +322,14 @@ def match_forms(a, b):
 def match_line(holds, components, tags, at=None):
     """`at` is the node, where it is not the number of components."""
     if not holds:
-        return kept("no match", WORDS)
+        return kept("no match")
     return matched(len(components) if at is None else at, *first_places(name(*components), tags))
 
 
 def matches():
     for what, a, b, is_equal in pairs():
         for form, of, components, tags in match_forms(a, b):
-            yield f"{form}: {what}", match(of, name(*components), WORDS), match_line(is_equal, components, tags)
+            yield f"{form}: {what}", match(of, name(*components), OLD), match_line(is_equal, components, tags)
 
 
 def sign_forms(a, b):
@@ -386,12 +384,12 @@ def one_of_many():
         by_any = model(node(0, pattern_edge(1, 1, constraint(*(option(value(each)) for each in components)))), node(1, parent(0)), patterns=1)
         for i, each in enumerate(components, 1):
             what = f"variant {i} of {size} bytes"
-            yield f"{what}, ValueEdges", match(by_value, name(each), WORDS), match_line(True, [each], [None], i)
-            yield f"{what}, PatternEdges", match(by_option, name(each), WORDS), match_line(True, [each], [1], i)
-            yield f"{what}, options", match(by_any, name(each), WORDS), match_line(True, [each], [1])
+            yield f"{what}, ValueEdges", match(by_value, name(each), OLD), match_line(True, [each], [None], i)
+            yield f"{what}, PatternEdges", match(by_option, name(each), OLD), match_line(True, [each], [1], i)
+            yield f"{what}, options", match(by_any, name(each), OLD), match_line(True, [each], [1])
         for what, each in ("another byte", component(changed(some(size), size // 2, by=2))), ("another type", component(some(size), 10)):
             for form, of in ("ValueEdges", by_value), ("PatternEdges", by_option), ("options", by_any):
-                yield f"no variant of {size} bytes, {what}, {form}", match(of, name(each), WORDS), kept("no match", WORDS)
+                yield f"no variant of {size} bytes, {what}, {form}", match(of, name(each), OLD), kept("no match")
 
 
 def same_types():
@@ -418,14 +416,14 @@ def longest_names():
             a, is_itself = component(some(1016)), what == "itself"
             for form, of, components, tags in match_forms(a, b):
                 if len(components) == 1:
-                    yield f"{form}: 1016 bytes, {what}", match(of, name(b), WORDS), match_line(is_itself, components, tags)
+                    yield f"{form}: 1016 bytes, {what}", match(of, name(b), OLD), match_line(is_itself, components, tags)
             line = allowed(1, 1, 0, 0, packet=[(1, 4, 1020)]) if is_itself else NOT_ALLOWED
             yield f"a Tag in packet and key: 1016 bytes, {what}", sign(B, name(a), name(b)), line
             yield f"the packet's own behind it: 1016 bytes, {what}", suggest(B, name(a), name(b), name(a)), f"certificate {0 if is_itself else 1}"
     value = some(506)
     for what, other in ("itself", value), *((f"place {i}", changed(value, i)) for i in (0, 253, 505)), ("a byte less", value[1:]):
         for form, of, components, tags in match_forms(component(value), component(other)):
-            yield f"{form}: 506 bytes, {what}", match(of, name(*components), WORDS), match_line(value == other, components, tags)
+            yield f"{form}: 506 bytes, {what}", match(of, name(*components), OLD), match_line(value == other, components, tags)
 
 
 def date_names():
@@ -438,7 +436,7 @@ def date_names():
         keys = [name("key", day) for day in days]
         for i, day in enumerate(days):
             what = f"1{i}{end[:7]}, {len(day)} bytes"
-            yield f"the edge of day {what}", match(each_day, name(day), WORDS), match_line(True, [day], [None], i + 1)
+            yield f"the edge of day {what}", match(each_day, name(day), OLD), match_line(True, [day], [None], i + 1)
             yield f"the key of day {what}", suggest(parts_of_days, name("part", day), *keys), f"certificate {i}"
             yield f"no key of day {what}", suggest(parts_of_days, name("part", day), *keys[:i], *keys[i + 1 :]), "none"
             for j in (i, (i + 1) % 10):
@@ -446,7 +444,7 @@ def date_names():
                 line = sign_line(i == j, names, ([None, 1], [None, 1]), (2, 4, 0, 0, 1, 0))
                 yield f"day {what} by 1{j}", sign(parts_of_days, *names), line
         other = component(f"20261120{end}")
-        yield f"a day without an edge, {len(other)} bytes", match(each_day, name(other), WORDS), kept("no match", WORDS)
+        yield f"a day without an edge, {len(other)} bytes", match(each_day, name(other), OLD), kept("no match")
 
 
 COMPARISONS = (

@@ -252,6 +252,10 @@ def many_words():
     yield "a path to follow after a longer one", follow(B, SLASH_A, SLASH_A, [0] * 2048) + FOLLOW, "no\n" + FOLLOW_LINE
     yield "2,000 cases with paths", (SIGN + FOLLOW) * 2000, (SIGN_LINE + FOLLOW_LINE) * 2000
     yield "100 cases with 1,024 and 2,048 words", long * 100, long_line * 100
+    # the longest lines
+    most = [65535] * 2048, [4294967295] * 1024
+    several = sign(B, SLASH_A, SLASH_B, *most) + GOOD + sign(B, SLASH_A, SLASH_A, *most)
+    yield "the largest words", several * 20, (both_kept("not allowed", *most) + "\n" + LINE + signed(*most)) * 20
 
 
 def component_fields():

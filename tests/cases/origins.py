@@ -45,12 +45,13 @@ def chains(packet, key, named=128):
     n, m = len(packet), len(key)
     by = n + m if key else 0
     branches = [[*edges_of(packet), (by,)]] + ([[*edges_of(key), ()]] if key else [])
-    value_first = bool(packet and key) and is_value(key[0]) and not is_value(packet[0])
-    begin = (1, 0) if value_first else (0, 1 if packet else 0)
-    path_edges = [*(begin[:1] + (0,) * 32)[:n], *(begin[1:] + (0,) * 32)[:m]]
+    first, second = 0, int(n > 0)
+    if packet and key and is_value(key[0]) > is_value(packet[0]):
+        first, second = 1, 0  # ValueEdges come before PatternEdges
+    ordinals = [first, *[0] * (n - 1)][:n] + [second, *[0] * (m - 1)][:m]
     names = name_of(packet), name_of(key)
     bound = pair_bindings(names[0], tags_of(packet), names[1], tags_of(key), named)
-    return Pair(tree(*branches, patterns=named), *names, (n, by, *path_edges), bound)
+    return Pair(tree(*branches, patterns=named), *names, (n, by, *ordinals), bound)
 
 
 LENGTHS = {3: 385, 8: 390, 13: 1024}  # of every 20 buffers; the others have 384 words
@@ -117,7 +118,7 @@ def by_hand():
 
 TAGS = (1, 2, 64, 127, 128)
 X = "x" * 300  # a component with a header of 4 bytes
-# the packet's steps and the key's, of a Tag and its component: how often each name meets it
+# how often the packet and the key meet a Tag
 MEETS = {
     "neither": (0, 0),
     "the packet": (1, 0),
@@ -161,8 +162,9 @@ def one_tag():
 
 
 def component_headers():
+    """Components with every width of a header, behind others with headers of 2 and 4 bytes."""
     for (what, each), (where, (packet, key)), (who, times) in product(COMPONENTS.items(), list(FRONTS.items())[:3], MEETS.items()):
-        if sum(times) in (1, 2) and max(times) == 1:
+        if max(times) == 1:
             yield f"a component of {what}, met by {who}, {where}", chains(met(packet, 5, each, times[0]), met(key, 5, each, times[1]))
 
 
@@ -246,10 +248,10 @@ def starts():
     for before, behind in product((2, 3, 100, 254, 257, 600), repeat=2):
         steps = ["p", filled(before), ("a", 1), ("ccc", 3)], ["k", filled(behind), ("bb", 2), ("ccc", 3)]
         yield f"{before} bytes in the packet, {behind} in the key", chains(*steps)
-    # the key's start around the packet's length, 11, and around the length of what is in it
+    # the key's start around the packet's length, 11
     for size in range(2, 12):
         yield f"{size} bytes before the key's Tag", chains(["p", ("a", 1), ("a", 3)], ["k", filled(size), ("bb", 2), ("a", 1)])
-    # and a packet's start around the key's length, 8
+    # and a packet's start around the key's length, 9
     for size in range(2, 9):
         yield f"{size} bytes before the packet's Tag", chains(["p", filled(size), ("a", 1)], ["k", ("bb", 2)])
     # names of 1,024 bytes
@@ -393,28 +395,27 @@ def left_by_hand():
     of = tree(["p", (6,)], ["k", (4,), (5,), ()], ["k", (5,), (4,), ()])
     line = allowed(1, 6, 0, 1, 1, 0, key=[(5, 5, 3), (4, 8, 3)])
     yield "the key's second match", sign(of, path("/p"), kbc), line
-    # the key's walk from the first packet match binds Tag 3 and fails; from the second it ends
-    of = tree([(1,), (7,)], [(2,), (7,)], ["k", (3,), (1,), "z", ()], ["k", (3,), (4,), ()])
-    line = allowed(1, 7, 1, 0, 0, 1, packet=[(1, 2, 3)], key=[(3, 5, 3), (4, 8, 3)])
-    yield "a key branch that meets the packet's Tag and fails", sign(of, SLASH_A, path("/k/b/a")), line
+    # the same where that Node's branch meets the packet's Tag
+    of = tree([(1,), (6,)], [(2,), (6,)], ["k", (3,), (1,), ()], ["k", (3,), (4,), ()])
+    line = allowed(1, 6, 1, 0, 0, 1, packet=[(1, 2, 3)], key=[(3, 5, 3), (4, 8, 3)])
+    yield "the key's second match, the first meeting the packet's Tag", sign(of, SLASH_A, path("/k/b/a")), line
+    # from the first packet match the key's walk binds Tag 3 and fails at Tag 1; from the second it binds both
     of = tree([(1,), (5,)], [(2,), (5,)], ["k", (3,), (1,), ()])
     line = allowed(2, 5, 2, 0, 0, 0, packet=[(2, 2, 3)], key=[(3, 5, 3), (1, 8, 3)])
     yield "Tag 1 by the packet at first, then by the key", sign(of, SLASH_A, kbc), line
     line = allowed(1, 5, 1, 0, 0, 0, packet=[(1, 2, 3)], key=[(3, 5, 3)])
     yield "Tag 1 by the packet, met by the key", sign(of, SLASH_A, path("/k/b/a")), line
     # a Constraint that refuses the last edge
-    refusing = constraint(option(value("x")))
-    of = tree([(1,), (2, refusing), ()], [(3,), (2,), (4,)])
-    both = path("/a/b")
+    of = tree([(1,), (2, must_be("x")), ()], [(3,), (2,), (4,)])
     line = allowed(4, 4, 1, 0, 1, 0, packet=[(3, 2, 3), (2, 5, 3)])
-    yield "a Constraint that refuses, both names", sign(of, both, both), line
-    # an edge of a Tag that is bound may be crossed with an equal component alone: the branch behind binds Tag 2 in the key
-    of = tree(["p", (1,), (4,)], ["k", (1,), ()], ["k", (2,), (2,)])
-    line = allowed(2, 4, 0, 0, 1, 0, packet=[(1, 5, 3)])
-    yield "Tag 1 alike", sign(of, path("/p/b"), kb), line
-    yield "Tag 1 not alike, and its branch alone listed", sign(of, path("/p/a"), kb), NOT_ALLOWED
+    yield "a Constraint that refuses, in both names", sign(of, path("/a/b"), path("/a/b")), line
+    # the key's first branch needs the packet's component, the second binds Tag 2 to any
+    of = tree(["p", (1,), (4,)], ["k", (1,), ()], ["k", (2,), ()])
+    yield "the key's first branch, alike", sign(of, path("/p/b"), kb), allowed(2, 4, 0, 0, 1, 0, packet=[(1, 5, 3)])
+    yield "the key's first branch, not alike", sign(of, path("/p/a"), kb), NOT_ALLOWED
     of = tree(["p", (1,), (4, 5)], ["k", (1,), ()], ["k", (2,), ()])
-    yield "Tag 1 not alike, and both branches listed", sign(of, path("/p/a"), kb), allowed(2, 5, 0, 0, 1, 1, packet=[(1, 5, 3)], key=[(2, 5, 3)])
+    line = allowed(2, 5, 0, 0, 1, 1, packet=[(1, 5, 3)], key=[(2, 5, 3)])
+    yield "the key's first branch, not alike, or its second", sign(of, path("/p/a"), kb), line
 
 
 # components that are compared with those of either name
@@ -429,16 +430,14 @@ def compared():
 
         other = component("b", 9) if what == "$eq_type" else component("b")
         # Tag 1 is the packet's a at 5, Tag 2 the key's b at 5; Tag 3's edge asks for one of them
-        for n, ends in (1, ("a", other)), (2, (other, "a")):
+        good = allowed(2, 5, 0, 0, 1, 0, 0, packet=[(1, 5, 3)], key=[(2, 5, 3), (3, 8, 3)])
+        for n, like, unlike in (1, "a", other), (2, other, "a"):
             of = tree(["p", (1,), (5,)], ["k", (2,), (3, asks(n)), ()])
-            packet = name("p", "a")
-            for end, holds in zip(ends, (True, False)):
-                key = name("k", other, end)
-                line = allowed(2, 5, 0, 0, 1, 0, 0, packet=[(1, 5, 3)], key=[(2, 5, 3), (3, 8, 3)]) if holds else NOT_ALLOWED
-                yield f"{what} of Tag {n}, {end[:1]!r} {holds}", sign(of, packet, key), line
+            yield f"{what} of Tag {n}, alike", sign(of, path("/p/a"), name("k", other, like)), good
+            yield f"{what} of Tag {n}, not alike", sign(of, path("/p/a"), name("k", other, unlike)), NOT_ALLOWED
         # the same within each name
-        of = tree(["p", (1,), (2, asks(1)), (3,)], patterns=3)
-        yield f"{what} in the packet and the key", sign(of, path("/p/a/a"), path("/p/a/a")), allowed(3, 3, *[0] * 6, packet=[(1, 5, 3), (2, 8, 3)])
+        of, both = tree(["p", (1,), (2, asks(1)), (3,)]), path("/p/a/a")
+        yield f"{what} in the packet and the key", sign(of, both, both), allowed(3, 3, *[0] * 6, packet=[(1, 5, 3), (2, 8, 3)])
     # Tag 2 twice in the key, where the packet has another component at its first place
     of = tree(["p", (1,), (5,)], ["k", (2,), (2,), ()])
     for key, line in (
@@ -451,7 +450,8 @@ def compared():
     # a packet's component further than the key's last byte, and a key's further than the packet's
     long = "y" * 100
     of = tree(["p", long, (1,), (5,)], ["k", (1,), ()])
-    yield "the packet's component behind the key's end", sign(of, name("p", long, "a"), path("/k/a")), allowed(3, 5, 0, 0, 0, 1, 0, packet=[(1, 107, 3)])
+    line = allowed(3, 5, 0, 0, 0, 1, 0, packet=[(1, 107, 3)])
+    yield "the packet's component behind the key's end", sign(of, name("p", long, "a"), path("/k/a")), line
     of = tree(["p", (1,), (7,)], ["k", long, (2,), (1,), (2,), ()])
     line = allowed(2, 7, 0, 0, 1, 0, 0, 0, 0, packet=[(1, 5, 3)], key=[(2, 107, 3)])
     yield "the key's component behind the packet's end", sign(of, path("/p/a"), name("k", long, "b", "a", "b")), line

@@ -377,7 +377,7 @@ def buffer():
     """On a match, and on an allowed pair, the first 384 words are written, those of temporary Tags with 0; all others are kept."""
     none = with_count(B, 0)
     for size in (384, 385, 430, 1024):
-        lent = [9] * size
+        lent = old_words(size)
         yield f"{size} words, no Tag bound", match(none, SLASH_A, lent), matched(1, behind=lent[384:])
         yield f"{size} words, no Tag bound", sign(none, SLASH_A, SLASH_B, words=lent), allowed(1, 1, 0, 0, words=lent)
         between = tree([(2,), (1,), (3,), (3,)], patterns=1)
@@ -389,13 +389,13 @@ def buffer():
         yield f"{size} words, no match", match(refusing, A_NAME, lent), kept("no match", lent)
         yield f"{size} words, not allowed", sign(refusing, A_NAME, SLASH_B, words=lent), both_kept("not allowed", words=lent)
     for size in (383, 256, 0):
-        lent = [9] * size
+        lent = old_words(size)
         yield f"{size} words", match(none, SLASH_A, lent), kept("refused 27 0", lent)
         yield f"{size} words", sign(none, SLASH_A, SLASH_B, words=lent), both_kept("refused 27 0", words=lent)
     last = tree([(128,), (127,), ()])
     for count in (126, 127, 128):
         line = walked(2, "/a/b", (128, 127), count)
-        yield f"the last words, count {count}", match(with_count(last, count), AB, [9] * 384), line
+        yield f"the last words, count {count}", match(with_count(last, count), AB, OLD), line
 
 
 # lists of certificates
