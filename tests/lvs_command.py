@@ -1189,7 +1189,8 @@ def run(words, folder, given=b"", command=COMMAND, **how):
 
 def check_runs(folder):
     lists = suggest_runs, refused_list_runs, long_list_runs, list_mistake_runs
-    parts = judge_runs, malformed_runs, match_runs, sign_runs, batch_runs, binding_runs, path_runs, follow_runs, *lists, tree_runs, show_runs, error_runs
+    pairs = sign_runs, batch_runs, binding_runs, path_runs, follow_runs
+    parts = judge_runs, malformed_runs, match_runs, *pairs, *lists, tree_runs, show_runs, error_runs
     runs = [one for part in parts for one in part()]
     with concurrent.futures.ThreadPoolExecutor(os.cpu_count()) as pool:
         found = pool.map(lambda one: run(one.words, folder, one.given), runs)
@@ -1292,8 +1293,10 @@ def check_binding_words():
         lines.append((match_case, match_words(f"match 1 {bound}", *words), f"answers with {found}, and with the words of {len(words) // 3}"))
     # a word more or less, no bindings or no path
     bound, both = match_words("match 1 1", 2, 3, 1), pair_words("allowed 1 1", 2, 3, 1)
-    no_words = (match_case, "match 1 1"), (sign_case, "allowed 1 1"), (sign_case, match_words("allowed 1 1", 2, 3, 1)), (sign_case, "allowed 1 1" + " 0" * 64)
-    for case, line in (match_case, bound + " 0"), (match_case, bound[:-2]), (sign_case, both + " 0"), (sign_case, both[:-2]), *no_words:
+    no_path, no_bindings = match_words("allowed 1 1", 2, 3, 1), "allowed 1 1" + " 0" * 64
+    no_answers = [(match_case, line) for line in (bound + " 0", bound[:-2], "match 1 1")]
+    no_answers += ((sign_case, line) for line in (both + " 0", both[:-2], "allowed 1 1", no_path, no_bindings))
+    for case, line in no_answers:
         lines.append((case, line, f"printed {line[:60]!r}, which is no answer"))
     for case, line, text in lines:
         check(f"the line {line}"[:200], failure(driver.answer_of, case, line), f"lvs_cases {text}")
@@ -1438,8 +1441,20 @@ def walked_name(of, bound, chance):
 
 def check_bindings():
     """What is shown of the bindings of pairs and matches, against a search of one's own; of the run cases' pairs, against their paths."""
+    check_random_bindings()
+    for of, model_of, packet, answer in found_matches():
+        at, bindings = next(matches(model_of, placed(packet, "packet"), {}, model_of.start), (None, {}))
+        found, expected = printed_bindings(answer, Labels(of)), shown_bindings(model_of, bindings)
+        check(f"the bindings of {packet.hex()} in {of.hex()}"[:300], (answer.node, found), (at, expected))
+    for of, model_of, packet, key, answer in allowed_pairs():
+        bindings = bound_along(model_of, placed(packet, "packet"), placed(key, "key"), answer.path)
+        found, expected = printed_bindings(answer, Labels(of)), shown_bindings(model_of, bindings)
+        check(f"the bindings of {packet.hex()} and {key.hex()} in {of.hex()}"[:300], found, expected)
+
+
+def check_random_bindings():
     chance, kinds = random.Random(0), collections.Counter()
-    asked = [*small_pairs(250, chance), *((one.model, one.described, one.packet, one.key) for one in random_paths(100))]
+    asked = [*small_pairs(200, chance), *((one.model, one.described, one.packet, one.key) for one in random_paths(60))]
     signed = driver.ask([driver.sign_case(of, packet, key) for of, _, packet, key in asked])
     matched = driver.ask([driver.match_case(of, packet) for of, _, packet, _ in asked])
     for (of, model_of, *both), pair_answer, match_answer in zip(asked, signed, matched):
@@ -1453,10 +1468,7 @@ def check_bindings():
         at, bindings = next(matches(model_of, packet, {}, model_of.start), (None, None))
         found = isinstance(match_answer, answers.Match) and (match_answer.node, match_answer.bound, printed_bindings(match_answer, labels))
         check(f"the match of {what}", found, at is not None and (at, len(bindings), shown_bindings(model_of, bindings)))
-    check("how often each thing becomes of a Tag", (len(kinds), min(kinds.values()) >= 50), (9, True))
-    for of, model_of, packet, key, answer in allowed_pairs():
-        bindings = bound_along(model_of, placed(packet, "packet"), placed(key, "key"), answer.path)
-        check(f"the bindings of a run case in {of.hex()}"[:300], printed_bindings(answer, Labels(of)), shown_bindings(model_of, bindings))
+    check("how often each thing becomes of a Tag", (len(kinds), min(kinds.values()) >= 30), (9, True))
 
 
 class Followed:
@@ -1479,15 +1491,26 @@ def described(models):
     return {of: description.from_lists(one.numbers, one.texts) for of, one in zip(models, driver.ask(list(map(driver.describe_case, models))))}
 
 
+def answered_with(kind, case, asked):
+    """(model, its description, the rest that was asked, answer) of each that has an answer of this kind."""
+    found = [(*each, answer) for each, answer in zip(asked, driver.ask([case(*each) for each in asked])) if isinstance(answer, kind)]
+    of_models = described(of for of, *_ in found)
+    return [(of, of_models[of], *rest) for of, *rest in found]
+
+
+def found_matches():
+    """(model, its description, packet name, answer) of each match of the run cases."""
+    asked = dict.fromkeys(tuple(fields(case))[:2] for case in run_cases() if case[:1] == b"M")
+    return answered_with(answers.Match, driver.match_case, list(asked))
+
+
 @functools.lru_cache
 def allowed_pairs():
     """(model, its description, packet name, key name, answer) of each allowed pair of the run cases and of the example."""
     pairs = [tuple(fields(case))[:3] for case in run_cases() if case[:1] in b"SP"]
     pairs += ((EXAMPLE, names.name(packet), names.name(key)) for packet, key in names.pairs(REQUESTS.splitlines()))
     pairs = list(dict.fromkeys(pairs))
-    allowed = [(*of, answer) for of, answer in zip(pairs, driver.ask([driver.sign_case(*of) for of in pairs])) if isinstance(answer, answers.Allowed)]
-    of_models = described(of for of, *_ in allowed)
-    return [(of, of_models[of], *rest) for of, *rest in allowed]
+    return answered_with(answers.Allowed, driver.sign_case, pairs)
 
 
 def printed_paths():

@@ -150,17 +150,17 @@ def read_answer(line, *names):
         return Refused(*numbers)
     if words[:1] in (["written"], ["described"]):
         return read_lent(words) or no_answer(line)
+    if words[:2] == ["no", "match"]:
+        return NoMatch()
+    if words[:2] == ["not", "allowed"]:
+        return NotAllowed()
     numbers = all_numbers(words)
     if words[:1] == ["accepted"] and len(numbers) == 1:
         return Accepted(*numbers)
     if words[:1] == ["match"] and len(numbers) == 2 + WORDS:
         return read_match(*numbers[:2], tuple(read_bindings(numbers[2:], *names)))
-    if words[:2] == ["no", "match"]:
-        return NoMatch()
     if words[:1] == ["allowed"] and len(numbers) == 2 + WORDS + PATH_WORDS:
         return Allowed(*numbers[:2], tuple(read_bindings(numbers[2 : 2 + WORDS], *names)), tuple(numbers[2 + WORDS :]))
-    if words[:2] == ["not", "allowed"]:
-        return NotAllowed()
     if words == ["accepted"]:
         return Followed()
     if words == ["no"]:
@@ -183,11 +183,12 @@ def read_lent(words):
     *words, lent = words
     if not is_bytes(lent):
         return None
-    numbers, lent = all_numbers(words), bytes.fromhex(lent)
-    if words[0] == "written" and len(numbers) == 1 and numbers[0] <= len(lent):
-        return Written(lent[: numbers[0]])
-    if words[0] == "described" and len(numbers) >= 2 and numbers[0] <= len(numbers) - 2 and numbers[1] <= len(lent):
-        return Described(numbers[2 : 2 + numbers[0]], lent[: numbers[1]])
+    counts, lent = all_numbers(words[1:3]), bytes.fromhex(lent)
+    if words[0] == "written" and len(words) == 2 and len(counts) == 1 and counts[0] <= len(lent):
+        return Written(lent[: counts[0]])
+    if words[0] == "described" and len(counts) == 2 and counts[1] <= len(lent):
+        numbers = all_numbers(words[3 : 3 + counts[0]])
+        return Described(numbers, lent[: counts[1]]) if len(numbers) == counts[0] else None
     return None
 
 

@@ -21,8 +21,8 @@ example:
     tag 4 = 1, from the packet
 
 Below an allowed pair are its bindings: each bound tag, by its symbol where the model has one;
-its component, as in a URI; and the name in which it was first bound. A tag that is bound in the
-packet and met again in the key, as the ID of this author, is from the packet:
+its component, as in a URI; and the name in which it was first bound. A tag that is bound in
+the packet and met again in the key, as the ID of this author, is from the packet:
 
   $ lvs sign example/model.lvs /ndn/blog/100001/post/2022/1 /ndn/blog/author/100001/KEY/1/000001/1
   allowed: packet at node 28, key at node 18
