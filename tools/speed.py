@@ -3,8 +3,9 @@
 
 usage: speed.py [--against PROGRAM] [--counts] [WORD..]    only the rows whose name has one of the words; none: all, in about fifteen minutes
 
-With --against the second program is not the reference but another lvs_cases, such as one that was built before a change. One from before
-request 6, whose `S` has no path, gets its signing cases without it. With --counts nothing is timed.
+With --against the second program is not the reference but another lvs_cases, such as one that was built before a change. One from between
+requests 6 and 7, whose `S` has no binding words and whose `M` has two for each Tag, gets its cases in that form. With --counts nothing
+is timed.
 
 A case is run many times by both programs, once both have given the answer that the row is about. What reading and printing it costs is
 taken off: the same run with a model of the same length whose first byte is wrong, which both refuse at once; of a description to write,
@@ -41,7 +42,7 @@ import build  # noqa: E402
 from compare import build_reference, FIELDS, OURS, REFERENCE  # noqa: E402
 
 PROGRAMS = [OURS / "lvs_cases", REFERENCE / "answer_cases"]
-WITHOUT_PATH = []  # those of them whose signing case has no path
+WITHOUT_ORIGINS = []  # those of them whose signing case has no binding words, and whose matching case has two for each Tag
 PATH = 64  # words: one for each component that two names may have
 UNUSED = 65535  # a word of a path that no call writes: no Node has so many edges
 COUNTED = 4  # times that a case is run under callgrind
@@ -344,38 +345,46 @@ def lent(answer, case, count):
     return [int(word) for word in line.split()[-count:]]
 
 
+def signed(answer, model, packet, key):
+    """What a signing call leaves in the path, with a word for each component that a name may have, and in the binding words."""
+    words = lent(answer, build.sign(model, packet, key, [UNUSED] * PATH), len(build.OLD) + PATH)
+    return words[-PATH:], words[:-PATH]
+
+
 def sign(answer, model, packet, key):
-    """A signing call with a word for each component that a name may have; what it leaves in them stands there before it, too."""
-    return build.sign(model, packet, key, path(answer, model, packet, key))
-
-
-def path(answer, model, packet, key):
-    return lent(answer, build.sign(model, packet, key, [UNUSED] * PATH), PATH)
+    """A signing call; what it leaves in its words stands there before it, too."""
+    return build.sign(model, packet, key, *signed(answer, model, packet, key))
 
 
 def match(answer, model, packet):
     return build.match(model, packet, lent(answer, build.match(model, packet, build.OLD), len(build.OLD)))
 
 
-def has_path(program):
-    """Whether the program's `S` has a path: without one a case is broken off."""
+def has_origins(program):
+    """Whether the program's `S` has binding words: without them a case is broken off."""
     model, name = build.model(build.node(0)), build.path("/")
-    return subprocess.run([program], input=old_sign(model, name, name), capture_output=True, check=True).stdout == b"broken\n"
+    return subprocess.run([program], input=older(b"S", [model, name, name, b"", b""]), capture_output=True, check=True).stdout == b"broken\n"
 
 
-def old_sign(model, packet, key):
-    return b"S" + b"".join(map(build.field, (model, packet, key)))
+def older(letter, fields):
+    """A case as it was before request 7."""
+    if letter == b"S":
+        del fields[3]
+    if letter == b"M":
+        words = [fields[2][i:i + 4] for i in range(0, len(fields[2]), 4)]
+        fields[2] = b"".join(word for i, word in enumerate(words) if i % 3 < 2)
+    return letter + b"".join(map(build.field, fields))
 
 
 def form(program, cases):
     """The cases as the program reads them."""
-    if program not in WITHOUT_PATH:
+    if program not in WITHOUT_ORIGINS:
         return cases
     written = b""
     with io.BytesIO(cases) as given:
         while letter := given.read(1):
             fields = [given.read(int.from_bytes(given.read(4), "big")) for _ in range(FIELDS[letter])]
-            written += old_sign(*fields[:3]) if letter == b"S" else letter + b"".join(map(build.field, fields))
+            written += older(letter, fields)
     return written
 
 
@@ -465,21 +474,19 @@ def walk_row(what, cases):
 
 
 def follow_row(what, model, packet, key, words):
-    """Ours; and the other program's following call, if it has one."""
+    """Ours, and the other program's."""
     signing = sign("allowed", model, packet, key)
     if words is None:
-        words = [word for word in path("allowed", model, packet, key) if word != UNUSED]
+        words = [word for word in signed("allowed", model, packet, key)[0] if word != UNUSED]
     count, following = len(words), build.follow(model, packet, key, words)
-    knows = [program for program in PROGRAMS if program not in WITHOUT_PATH]
-    for program in knows:
+    for program in PROGRAMS:
         assert line_of(program, following) == "accepted\n", (what, line_of(program, following))
     cost = lambda case, program=PROGRAMS[0]: instructions(program, case) - instructions(program, spoiled(case))
     verdict, found = cost(build.verdict(model)), cost(signing)
-    follow, *theirs = (cost(following, program) for program in knows)
+    follow, theirs = (cost(following, program) for program in PROGRAMS)
     over, places, crossings = follow - verdict, *(instructions(PROGRAMS[0], following, inside) for inside in (PLACES, FOLLOW))
-    theirs = f"{theirs[0]:>11.0f}{follow / theirs[0]:>7.2f}" if theirs else ""
     print(f"{what:<32}{count:>6}{verdict:>10.0f}{found:>12.0f}{follow:>10.0f}{found / follow:>9.2f}{over:>10.0f}{places:>8.0f}"
-          f"{crossings:>11.0f}{crossings / count:>8.0f}{theirs}", flush=True)
+          f"{crossings:>11.0f}{crossings / count:>8.0f}{theirs:>11.0f}{follow / theirs:>7.2f}", flush=True)
 
 
 def suggest_row(what, is_allowed, model, packet, keys):
@@ -510,8 +517,8 @@ def main():
     if words[:1] == ["--against"]:
         second, PROGRAMS[1], words = "other", words[1], words[2:]
         THEIRS.update(names=NAMES, walk=WALK)
-        if not has_path(PROGRAMS[1]):
-            WITHOUT_PATH.append(PROGRAMS[1])
+        if not has_origins(PROGRAMS[1]):
+            WITHOUT_ORIGINS.append(PROGRAMS[1])
     else:
         build_reference()
     timed = words[:1] != ["--counts"]
@@ -526,7 +533,7 @@ def main():
         if wanted(what):
             walk_row(what, cases)
     print(f"\n{'following':<32}{'words':>6}{'verdict':>10}{'sign':>12}{'follow':>10}{'sign : 1':>9}{'over':>10}{'places':>8}{'crossings':>11}{'each':>8}"
-          + ("" if WITHOUT_PATH else f"{second:>11}{'ratio':>7}"))
+          f"{second:>11}{'ratio':>7}")
     for what, *call in followings():
         if wanted(f"follow, {what}"):
             follow_row(what, *call)
