@@ -14,15 +14,15 @@ CASES cases (default 100,000) in batches of 20,000, one seed each, beginning wit
   for a quarter as many of gen_certificates, which look for a certificate in a list (C), of gen_components, which compare two
   components (E), and of gen_paths, most of which follow a path (P) and some of which ask for one (S), and for half as many of
   gen_damaged, whose models are damaged, so that most are refused with 2 at some place;
-- lvs_check must print the reference's lines for the first signing cases, given the model as its file; it has room for every path,
-  so the reference is asked again with room enough;
+- lvs_check must print the reference's lines for the first signing cases, given the model as its file; it has room for all bindings
+  and every path, so the reference is asked again with room enough;
 - the cases of gap_cases (optional and critical elements in gaps, other versions) must get their lines.
 With --descriptions only cases of gen_descriptions are compared, CASES of them in batches of 10,000, one seed each, and with --damaged
 only those of gen_damaged; with --certificates only those of gen_certificates, with --components only those of gen_components, and
 with --paths only those of gen_paths, in batches of 5,000.
 A difference is printed with its program, seed and index, and e.g. `gen_cases SEED 1 INDEX` writes that case alone.
 The last lines say how often each answer came up, with the letter before those that are not of gen_cases, then how many different
-places refusal 2 named in each kind of cases.
+places refusal 2 named in each kind of cases, and how many of the allowed pairs have bindings of each origin.
 """
 import collections
 import itertools
@@ -41,8 +41,10 @@ BATCH = 20_000
 MORE = {"descriptions": BATCH // 2, "certificates": BATCH // 4, "components": BATCH // 4, "damaged": BATCH // 2, "paths": BATCH // 4}
 RUNS = 100  # of lvs_check, in a batch
 LIMIT = 2048  # lvs_check's, for the length of a name
-ROOM = bytes(2 * 64)  # of a path: a word for each component of two names
-FIELDS = {b"V": 1, b"M": 3, b"S": 4, b"P": 4, b"W": 3, b"D": 3, b"C": 3, b"E": 2}
+BINDING_WORDS = 3 * 128  # start, length and origin of each Tag
+BINDING_ROOM = bytes(4 * BINDING_WORDS)
+PATH_ROOM = bytes(2 * 64)  # a word for each component of two names
+FIELDS = {b"V": 1, b"M": 3, b"S": 5, b"P": 4, b"W": 3, b"D": 3, b"C": 3, b"E": 2}
 
 
 def build_reference():
@@ -91,22 +93,22 @@ def checker_lines(verdict, signing, names):
 
 
 def without_rest(signing):
-    """A signing answer without what lvs_check doesn't print: the words of the path, and a refusal's second number."""
-    words = signing.split()
+    """A signing answer without what lvs_check doesn't print: the lent words, and a refusal's second number."""
+    words = signing.split(maxsplit=3)
     return " ".join(words[:3] if words[0] == "allowed" else words[:2])
 
 
 def with_room(model, packet, key):
-    """The reference's verdict, and its answer to the signing call when any path has room."""
-    signing = b"S" + field(model) + field(packet) + field(key) + field(ROOM)
-    return lines_of(REFERENCE / "answer_cases", b"V" + field(model) + signing)
+    """The reference's verdict, and its answer to the signing call when there is room for all bindings and any path."""
+    signing = b"".join(map(field, (model, packet, key, BINDING_ROOM, PATH_ROOM)))
+    return lines_of(REFERENCE / "answer_cases", b"V" + field(model) + b"S" + signing)
 
 
 def compare_checker(file, folder):
     """Runs lvs_check on the first signing cases. Answers how many it ran, and the differences."""
     signing = ((index, fields) for index, (letter, fields) in enumerate(cases_of(file)) if letter == b"S")
     wrong = ran = 0
-    for index, (model, packet, key, _) in itertools.islice(signing, RUNS):
+    for index, (model, packet, key, *_) in itertools.islice(signing, RUNS):
         (folder / "model.lvs").write_bytes(model)
         verdict, answer = with_room(model, packet, key)
         ours = lines_of(OURS / "lvs_check", b"\x4d\x4b" + request(packet) + request(key), cwd=folder)
@@ -123,29 +125,48 @@ def kind(line):
     return " ".join(words[:2]) if words[0] in ("refused", "no", "not") else words[0]
 
 
+def origins(allowed):
+    """The origins of the bindings in the line of an allowed pair."""
+    bindings = allowed.split(maxsplit=3 + BINDING_WORDS)[3:3 + BINDING_WORDS]
+    return frozenset(bindings[2::3]) - {"0"}
+
+
 class Tally:
-    """How often each answer came up, and at which places models were malformed."""
+    """How often each answer came up, at which places models were malformed, and which origins allowed pairs have."""
 
     def __init__(self):
         self.answers = collections.Counter()
         self.places = collections.defaultdict(collections.Counter)
+        self.origins = collections.defaultdict(collections.Counter)
 
     def add(self, program, letter, line):
         self.answers[letter, kind(line)] += 1
         if line.startswith("refused 2 "):
             self.places[program][line.split(maxsplit=3)[2]] += 1
+        if line.startswith("allowed "):
+            self.origins[program][origins(line)] += 1
 
     def print(self):
         for letter, answer in sorted(self.answers, key=in_order):
             print(f"{self.answers[letter, answer]:>10} {letter}{answer}")
         for program, places in sorted(self.places.items()):
             print(f"{program}: {places.total()} malformed models, {len(places)} different places")
+        for program, pairs in sorted(self.origins.items()):
+            of = {origin: sum(number for found, number in pairs.items() if origin in found) for origin in "12"}
+            print(f"{program}: {pairs.total()} allowed pairs, {of['1']} with bindings of origin 1, {of['2']} of origin 2, "
+                  f"{pairs[frozenset('12')]} of both")
+
+
+def excerpt(line, other):
+    """The part of a line where it begins to differ from another one; with all lent words it is a long one."""
+    start = max(0, len(os.path.commonprefix([str(line), str(other)])) - 60)
+    return "..." * (start > 0) + str(line)[start:start + 100]
 
 
 def report(what, seed, ours, expected):
     found = list(differences(ours, expected))
     for index, a, b in found[:5]:
-        print(f"  {what}, seed {seed}, case {index}: {str(a)[:100]}, the reference: {str(b)[:100]}")
+        print(f"  {what}, seed {seed}, case {index}: {excerpt(a, b)}, the reference: {excerpt(b, a)}")
     return len(found)
 
 

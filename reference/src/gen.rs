@@ -44,20 +44,29 @@ enum Call {
     Verdict,
     Match,
     Sign,
+    /// A signing call that is allowed, with bindings of some kind.
+    Bind,
 }
+
+const CALLS: [(usize, Call); 4] = [
+    (20, Call::Verdict),
+    (40, Call::Match),
+    (28, Call::Sign),
+    (12, Call::Bind),
+];
 
 /// The case with this index.
 pub fn case(seed: u64, index: u64) -> Case {
     let mut random = Random::for_case(seed, index);
     let random = &mut random;
     let sample = sample(random);
-    match random.weighted(&[(20, Call::Verdict), (40, Call::Match), (40, Call::Sign)]) {
+    match random.weighted(&CALLS) {
         Call::Verdict => Case::Verdict {
             model: sample.bytes,
         },
         Call::Match => match_case(random, sample),
-        Call::Sign if random.chance(35) => bindings::binding_case(random, sample),
         Call::Sign => sign_case(random, sample),
+        Call::Bind => bindings::binding_case(random, sample),
     }
 }
 

@@ -463,7 +463,11 @@ fn of_equal_pairs_the_first_counts() {
         &[
             node(0, None, &edges),
             node(1, Some(0), &[signer(3)]),
-            node(2, Some(0), &[pattern_edge(3, 3, &[]), pattern_edge(3, 4, &[])]),
+            node(
+                2,
+                Some(0),
+                &[pattern_edge(3, 3, &[]), pattern_edge(3, 4, &[])],
+            ),
             node(3, Some(2), &[]),
         ],
     );
@@ -557,7 +561,10 @@ fn signing_needs_384_words() {
     }
     for room in ENOUGH {
         let (answer, words, path) = signed(&model, &a, &a, [room, 3]);
-        assert_eq!((&answer[..], &path[..]), ("allowed 1 1", &[0, 0, LENT_PATH][..]));
+        assert_eq!(
+            (&answer[..], &path[..]),
+            ("allowed 1 1", &[0, 0, LENT_PATH][..])
+        );
         assert_eq!(words[..384], words_of(&[(1, [2, 3, 1])]));
         assert_eq!(words[384..], vec![LENT; room - 384]);
         let answer = signed(&model, &a, &b, [room, 3]);

@@ -94,7 +94,8 @@ fn about_half_of_all_edges_are_temporary() {
         mixed += usize::from((1..edges(&model).count()).contains(&of_model));
     }
     let share = 100 * temporary / all;
-    assert!((45..=55).contains(&share), "{temporary} of {all}");
+    // signing cases that are to bind something have more named ones
+    assert!((42..=55).contains(&share), "{temporary} of {all}");
     assert!(100 * mixed / models >= 30, "{mixed} of {models}");
 }
 

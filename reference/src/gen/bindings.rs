@@ -3,7 +3,7 @@
 use std::ops::ControlFlow;
 
 use super::models::{write, Sample};
-use super::names::{Signing, Style};
+use super::names::{lengthened, Signing, Style};
 use super::random::Random;
 use super::sound;
 use super::work::Models;
@@ -47,8 +47,8 @@ const AIMS: [(usize, Aim); 6] = [
 ];
 
 const NAME_STYLES: [(usize, Style); 3] = [
-    (95, Style::Exact),
-    (3, Style::AtByteLimit),
+    (92, Style::Exact),
+    (6, Style::AtByteLimit),
     (2, Style::AtComponentLimit),
 ];
 
@@ -56,13 +56,16 @@ const NAME_STYLES: [(usize, Style); 3] = [
 pub fn binding_case(random: &mut Random, otherwise: Sample) -> Case {
     let aim = random.weighted(&AIMS);
     for _ in 0..MODELS {
-        let sound = mostly_named_model(random);
+        let sound = model_for(random, aim);
         let bytes = sound.clone();
         let sample = Sample { sound, bytes };
         let models = Models::of(&sample);
         for _ in 0..NAMES {
-            let (packet, key) = names(random, &models);
+            let (mut packet, mut key) = names(random, &models);
             if is_met(aim, &models.source, &packet, &key) {
+                if random.chance(30) {
+                    lengthen(random, aim, &models.source, &mut packet, &mut key);
+                }
                 return signing(random, sample.bytes, packet, key);
             }
         }
@@ -70,11 +73,16 @@ pub fn binding_case(random: &mut Random, otherwise: Sample) -> Case {
     sign_case(random, otherwise)
 }
 
-/// An accepted model, more often than not without temporary Tags.
-fn mostly_named_model(random: &mut Random) -> Vec<u8> {
+/// An accepted model. Where an aim takes several bindings, it often has no temporary
+/// Tags.
+fn model_for(random: &mut Random, aim: Aim) -> Vec<u8> {
+    let all_named_percent = match aim {
+        Aim::OfKey | Aim::MetAgain => 0,
+        _ => 40,
+    };
     loop {
         let mut plan = sound::plan(random);
-        if random.chance(65) {
+        if random.chance(all_named_percent) {
             let edges = plan.nodes.iter().flat_map(|node| &node.pattern_edges);
             let largest = edges.map(|edge| edge.tag).max().unwrap_or(1);
             plan.named_pattern_count = *random.pick(&[largest, largest + 1, MAX_TAG]);
@@ -93,6 +101,20 @@ fn names(random: &mut Random, models: &Models) -> (Vec<u8>, Vec<u8>) {
     let mut key = signing.key_name(random, &NAME_STYLES);
     models.shorten_both(&mut packet, &mut key, MAX_WORK);
     (packet, key)
+}
+
+/// Makes a component of the names longer, so that there are large starts behind it,
+/// if one is found that may be.
+fn lengthen(random: &mut Random, aim: Aim, model: &Model, packet: &mut Vec<u8>, key: &mut Vec<u8>) {
+    for _ in 0..NAMES {
+        let [of_packet, of_key] = [(&packet, Role::Packet), (&key, Role::Key)]
+            .map(|(name, role)| Name::load(name, role).expect("no aim is met by a refused name"));
+        let [longer_packet, longer_key] = lengthened(random, &of_packet, &of_key);
+        if is_met(aim, model, &longer_packet, &longer_key) {
+            (*packet, *key) = (longer_packet, longer_key);
+            return;
+        }
+    }
 }
 
 /// Whether the names are allowed, and the aim is met by their first pair.

@@ -72,6 +72,27 @@ pub fn restyled(random: &mut Random, model: &Model, name: &Name, style: Style) -
     finish(random, model, &walk, style)
 }
 
+/// Two names with one of their components made longer, wherever it stands.
+pub fn lengthened(random: &mut Random, packet: &Name, key: &Name) -> [Vec<u8>; 2] {
+    let both = packet.components.iter().chain(&key.components);
+    let components: Vec<Component> = both.map(|placed| placed.component).collect();
+    if components.is_empty() {
+        return [packet, key].map(|_| encode(&[]));
+    }
+    let short = *random.pick(&components);
+    let mut long = OwnedComponent::from(short);
+    let length = random.between(200, 700);
+    long.value.extend(vec![b'y'; length]);
+    [packet, key].map(|name| {
+        let placed = name.components.iter();
+        let replaced = placed.map(|placed| match placed.component == short {
+            true => long.clone(),
+            false => placed.component.into(),
+        });
+        encode(&replaced.collect::<Vec<_>>())
+    })
+}
+
 /// The walk of a packet that has signers, if any packet has, and what is
 /// needed to find its keys.
 pub struct Signing<'m> {

@@ -94,13 +94,13 @@ pub fn path_case(seed: u64, index: u64) -> Case {
     let aim = random.weighted(&AIMS);
     for _ in 0..MODELS {
         let sample = model_for_paths(random);
-        if let Some(ticket) = ticket_in(random, &sample, aim) {
-            return finished(random, sample, ticket);
+        if let Some(inputs) = inputs_in(random, &sample, aim) {
+            return finished(random, sample, inputs);
         }
     }
     let sample = model_for_paths(random);
-    let ticket = Ticket::at_random(random, &Models::of(&sample));
-    finished(random, sample, ticket)
+    let inputs = PathInputs::at_random(random, &Models::of(&sample));
+    finished(random, sample, inputs)
 }
 
 /// Few models are refused, and some have ordinals that need more than a byte.
@@ -146,18 +146,18 @@ fn widen(random: &mut Random, plan: &mut Plan) {
 
 /// Names and a path for them.
 #[derive(Clone)]
-struct Ticket {
+struct PathInputs {
     packet: Vec<u8>,
     key: Vec<u8>,
     path: Vec<u16>,
 }
 
-fn ticket_in(random: &mut Random, sample: &Sample, aim: Aim) -> Option<Ticket> {
+fn inputs_in(random: &mut Random, sample: &Sample, aim: Aim) -> Option<PathInputs> {
     let models = Models::of(sample);
     (0..NAMES).find_map(|_| match aim {
-        Aim::Random => Some(Ticket::at_random(random, &models)),
-        Aim::Unlisted | Aim::Unbound | Aim::Shut => failing_ticket(random, &models, aim),
-        _ => good_ticket(random, &models, aim),
+        Aim::Random => Some(PathInputs::at_random(random, &models)),
+        Aim::Unlisted | Aim::Unbound | Aim::Shut => failing_inputs(random, &models, aim),
+        _ => good_inputs(random, &models, aim),
     })
 }
 
@@ -174,7 +174,7 @@ fn names(random: &mut Random, models: &Models, aim: Aim) -> (Vec<u8>, Vec<u8>) {
 }
 
 /// A path that may be followed, altered as the aim says.
-fn good_ticket(random: &mut Random, models: &Models, aim: Aim) -> Option<Ticket> {
+fn good_inputs(random: &mut Random, models: &Models, aim: Aim) -> Option<PathInputs> {
     let (packet, key) = names(random, models, aim);
     let route = Route::find(&models.source, &packet, &key, |pairs| match aim {
         Aim::Later => random_item(random, pairs.allowed.get(1..)?),
@@ -199,16 +199,16 @@ fn good_ticket(random: &mut Random, models: &Models, aim: Aim) -> Option<Ticket>
     if is_altered && path == right {
         return None;
     }
-    let ticket = Ticket { packet, key, path };
+    let inputs = PathInputs { packet, key, path };
     match aim {
-        Aim::OtherNames => ticket.for_other_names(random, models),
-        Aim::Parts if random.chance(40) => ticket.with_exchanged_names(models),
-        _ => Some(ticket),
+        Aim::OtherNames => inputs.for_other_names(random, models),
+        Aim::Parts if random.chance(40) => inputs.with_exchanged_names(models),
+        _ => Some(inputs),
     }
 }
 
 /// A path that isn't accepted, though all would be well but for one thing.
-fn failing_ticket(random: &mut Random, models: &Models, aim: Aim) -> Option<Ticket> {
+fn failing_inputs(random: &mut Random, models: &Models, aim: Aim) -> Option<PathInputs> {
     let (packet, key) = names(random, models, aim);
     let route = Route::find(&models.source, &packet, &key, |pairs| match aim {
         Aim::Unbound => random_item(random, &pairs.unbound),
@@ -216,14 +216,14 @@ fn failing_ticket(random: &mut Random, models: &Models, aim: Aim) -> Option<Tick
         _ => random_item(random, &pairs.unlisted),
     })?;
     let path = route.path;
-    Some(Ticket { packet, key, path })
+    Some(PathInputs { packet, key, path })
 }
 
 fn random_item(random: &mut Random, paths: &[Vec<u16>]) -> Option<Vec<u16>> {
     (!paths.is_empty()).then(|| random.pick(paths).clone())
 }
 
-impl Ticket {
+impl PathInputs {
     /// Any small words, mostly as many as there should be.
     fn at_random(random: &mut Random, models: &Models) -> Self {
         let (packet, key) = names(random, models, Aim::Random);
@@ -231,7 +231,7 @@ impl Ticket {
         let length = needed + random.weighted(&[(90, 0), (10, 1)]);
         let most = *random.pick(&[1, 2, 3, 6]);
         let path = (0..length).map(|_| random.below(most) as u16).collect();
-        Ticket { packet, key, path }
+        PathInputs { packet, key, path }
     }
 
     /// The path with names that it wasn't made for, if possible as long ones.
@@ -245,12 +245,12 @@ impl Ticket {
             (packet, key) != (&self.packet, &self.key) && needed == self.path.len()
         })?;
         let path = self.path;
-        Some(Ticket { packet, key, path })
+        Some(PathInputs { packet, key, path })
     }
 
     /// The path with one of the names a little altered.
     fn for_near_names(self, random: &mut Random, models: &Models) -> Option<Self> {
-        let Ticket { packet, key, path } = &self;
+        let PathInputs { packet, key, path } = &self;
         let mut made = self.clone();
         if random.chance(50) {
             let name = Name::load(packet, Role::Packet).ok()?;
@@ -268,10 +268,10 @@ impl Ticket {
     /// The packet's name as the key's and the reverse, so that a path whose parts
     /// are exchanged fits them.
     fn with_exchanged_names(self, models: &Models) -> Option<Self> {
-        let Ticket { packet, key, path } = self;
+        let PathInputs { packet, key, path } = self;
         let (packet, key) = (key, packet);
         let is_cheap = models.signing_work(&packet, &key) <= MAX_WORK;
-        is_cheap.then_some(Ticket { packet, key, path })
+        is_cheap.then_some(PathInputs { packet, key, path })
     }
 
     /// One of the names, or both, made such that it is refused.
@@ -294,16 +294,16 @@ impl Ticket {
     }
 }
 
-/// The case for a ticket: mostly it is followed, at times the path is asked for.
-fn finished(random: &mut Random, sample: Sample, mut ticket: Ticket) -> Case {
+/// The case for these inputs: mostly it is followed, at times the path is asked for.
+fn finished(random: &mut Random, sample: Sample, mut inputs: PathInputs) -> Case {
     if random.chance(8) {
-        ticket.spoil(random, &Models::of(&sample));
+        inputs.spoil(random, &Models::of(&sample));
     }
-    let Ticket {
+    let PathInputs {
         packet,
         key,
         mut path,
-    } = ticket;
+    } = inputs;
     let model = sample.bytes;
     if random.chance(90) {
         return Case::Follow {
