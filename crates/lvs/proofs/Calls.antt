@@ -15,7 +15,7 @@ use Rattle.lvs_spec.specs.Verdict.{Verdict, verdict}
 use Rattle.lvs_spec.specs.Names.{Component, badName, goodName, nameReading, packetName}
 use Rattle.lvs_spec.specs.Walk.{Match, packetMatches, pairs}
 use Rattle.lvs_spec.specs.Answers.{MatchAnswer, plain, words, boundCount, matchRefused, matchFound, matchWalked, matchRoom, matchName, matchIn, matchOutcome}
-use Rattle.lvs_spec.specs.Answers.{bad, good, inputs, SignAnswer, Buffers, SignOutcome, signRefused, pairFound, signRoom, signWith, signOutcome}
+use Rattle.lvs_spec.specs.Answers.{bad, good, inputs, SignAnswer, Buffers, signRefused, pairFound, signRoom, signWith, signOutcome}
 use Rattle.lvs_spec.specs.Demands.{RoomFor}
 use Rattle.lvs_spec.specs.Certificates.{Entry, entries, ListReading, fitEntries, listReading}
 use Rattle.lvs_spec.specs.Certificates.{SuggestAnswer, suggestFrom, suggestName, suggestIn, suggestAnswer}

@@ -32,7 +32,7 @@ use Rattle.lvs_spec.specs.Answers.{tagWords, Outcome, matchRefused, matchOutcom
 use Rattle.lvs_spec.specs.Certificates.{suggestAnswer}
 use Rattle.lvs_spec.specs.Gaps.{bare, Inserted, gapPlace, Stands}
 use Rattle.lvs_spec.specs.Demands.{modelRefusals, matchRefusals, followRefusals, signRefusals, suggestRefusals, SomeMatch, NoMatch}
-use Rattle.lvs_spec.specs.Demands.{wordsAt, FirstBound, ShortWords, ShortPath, SignRoom, SomeAllowed, NoneAllowed, SomeFollowed, NoneFollowed}
+use Rattle.lvs_spec.specs.Demands.{wordsAt, StandsIn, Whose, FirstBound, ShortWords, ShortPath, SignRoom, SomeAllowed, NoneAllowed, SomeFollowed, NoneFollowed}
 use Rattle.lvs_spec.specs.Demands.{MalformedAt, FaultWithin, joined, FirstAllowed, NoCertificate, Alike, AllRefuse, unnamed, counted}
 use Rattle.lvs_spec.proofs.Refusals.{verdict-number, refused-malformed}
 use Rattle.lvs_spec.proofs.Reading.{malformed-refused, fault-within}
@@ -42,8 +42,7 @@ use Rattle.lvs_spec.proofs.Following.{follow-some, follow-none, follow-number, 
 use Rattle.lvs_spec.proofs.Suggesting.{suggest-number, suggest-first, suggest-none}
 use Rattle.lvs_spec.proofs.Buffer.{refused-keeps, no-match-keeps, answer-by-length, matched-at, sign-refused-keeps, not-allowed-keeps}
 use Rattle.lvs_spec.proofs.Buffer.{sign-by-length, signed-at}
-use Rattle.lvs_spec.proofs.Lists.{first-in}
-use Rattle.lvs_spec.proofs.Origins.{packet-bound, first-bound}
+use Rattle.lvs_spec.proofs.Origins.{first-bound, match-stands, pair-stands}
 use Rattle.lvs_spec.proofs.Temporary.{temporary-words, temporary-pair-words, bound-few}
 use Rattle.lvs_spec.proofs.Same.{SameAnswers as SameDefined, accepted-same}
 use Rattle.lvs_spec.proofs.Unnamed.{same-unnamed}
@@ -215,14 +214,15 @@ module _ {model name buffer after : List ℕ} where
   pub first-match : {v n : ℕ} → Matched model name buffer (matchings.Match v n) after → MatchedBy model name buffer v n after
   first-match {v} {n} c = rw (left c) (match-matched model name buffer v n (sym (answered c)))
 
-  -- the three words of each Tag, suc i, say what it is bound to, where that starts in the name, and that it is from the packet
+  -- the three words of each Tag, suc i, are those of what it is bound to
   pub match-words : {v n : ℕ} (c : Matched model name buffer (matchings.Match v n) after) (i : ℕ) → i < maxTag
       → wordsAt after i ≡ tagWords (bound (first-match c .match .bindings) (suc i))
   match-words c = matched-at (first-match c)
 
-  pub match-origins : {v n : ℕ} (c : Matched model name buffer (matchings.Match v n) after) (t : ℕ) {d : Binding}
-      → bound (first-match c .match .bindings) t ≡ some d → (d .origin ≡ packetOrigin) × List·Memᴰ (d .component) (first-match c .components)
-  match-origins c = let by = first-match c in packet-bound (by .model) (by .components) (first-in _ (by .first-match))
+  -- which is from the packet, and stands in its name where they say
+  pub match-origins : {v n : ℕ} (c : Matched model name buffer (matchings.Match v n) after) → Bytes name → (t : ℕ) {d : Binding}
+      → bound (first-match c .match .bindings) t ≡ some d → (d .origin ≡ packetOrigin) × StandsIn name (d .component)
+  match-origins c = match-stands (first-match c)
 
   -- those of a temporary Tag are 0, and no more Tags are bound than are named
   pub temporary-words-zero : {v n : ℕ} → Matched model name buffer (matchings.Match v n) after → (i : ℕ) → modelOf model .patternCount < suc i
@@ -294,16 +294,21 @@ module _ {model packet key : List ℕ} {s after : Buffers} where
   pub first-pair : {p k : ℕ} → Signed model packet key s (signings.Allowed p k) after → SignedBy model packet key s p k after
   first-pair {p} {k} c = rw (buffers-left c) (sign-allowed model packet key s p k (sym (signed-answer c)))
 
-  -- the three words of each Tag, suc i, say what it is bound to where the key's walk ended
+  -- the three words of each Tag, suc i, are those of what it is bound to where the key's walk ended
   pub pair-words : {p k : ℕ} (c : Signed model packet key s (signings.Allowed p k) after) (i : ℕ) → i < maxTag
       → wordsAt (after .words) i ≡ tagWords (bound (first-pair c .pair .key .bindings) (suc i))
   pair-words c = signed-at (first-pair c)
 
-  -- and that is of the name where it was first bound: a Tag that the packet bound keeps this, whether the key met it again or not
-  pub pair-origins : {p k : ℕ} (c : Signed model packet key s (signings.Allowed p k) after) (t : ℕ)
+  -- which stands in the name of its origin where they say
+  pub pair-origins : {p k : ℕ} (c : Signed model packet key s (signings.Allowed p k) after) → Bytes packet → Bytes key → (t : ℕ) {d : Binding}
+      → bound (first-pair c .pair .key .bindings) t ≡ some d → Whose packet key d
+  pair-origins c = pair-stands (first-pair c)
+
+  -- that is where it was first bound: a Tag that the packet bound keeps this, whether the key met it again or not
+  pub origin-first : {p k : ℕ} (c : Signed model packet key s (signings.Allowed p k) after) (t : ℕ)
       → let by = first-pair c in
       FirstBound (by .packet-components) (by .key-components) (bound (by .pair .packet .bindings) t) (bound (by .pair .key .bindings) t)
-  pair-origins c = let by = first-pair c in first-bound (by .model) (by .packet-components) (by .key-components) (by .allowed)
+  origin-first c = let by = first-pair c in first-bound (by .model) (by .packet-components) (by .key-components) (by .allowed)
 
   -- those of a temporary Tag are 0
   pub temporary-pair-words-zero : {p k : ℕ} → Signed model packet key s (signings.Allowed p k) after → (i : ℕ) → modelOf model .patternCount < suc i

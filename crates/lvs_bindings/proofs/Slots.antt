@@ -43,7 +43,8 @@ twice-one : (i : ℕ) → suc (suc (i * 2)) + 1 ≡ suc (suc (i * 2 + 1))
 twice-one i = omega arith
 
 module _ (packet key : List ℕ) where
-  pub getD-bindings : (i : ℕ) (words : List ℕ) → getD (bindingsOf packet key words) i none ≡ binding packet key (getD words (i * 2) 0) (getD words (i * 2 + 1) 0)
+  pub getD-bindings : (i : ℕ) (words : List ℕ)
+      → getD (bindingsOf packet key words) i none ≡ binding packet key (getD words (i * 2) 0) (getD words (i * 2 + 1) 0)
   unfolding bindingsOf binding
   getD-bindings zero [] = refl
   getD-bindings zero (p ∷ []) = refl

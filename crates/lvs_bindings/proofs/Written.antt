@@ -2,17 +2,16 @@
 use Prim.Native.Nat.{ℕ, suc, _+_, _-_, _*_, _≤_, _<_}
 use mathlib.Core.Path.{_≡_, refl, sym, ap, _∙_}
 use mathlib.Core.Bool.{Bool, true, false, cond}
-use mathlib.Core.List.{List, [], _∷_, _++_, append-assoc, append-nil}
+use mathlib.Core.List.{List, [], _∷_, _++_}
 use mathlib.Core.Option.{Option, none, some}
 use native.Mathlib.Omega.{arith}
 use borrow.Author.Tests.{ne-eqb, lt-ltb, le-ltb}
 use lib.Dec.{eqb}
 use lib.ListN.{length, drop, take, getD, set, length-set}
-use lib.Seq.{take-suc, take-all, drop-cons, set-append-seam, length-take-le}
+use lib.Seq.{take-suc, take-all, drop-cons, length-take-le}
 use Rattle.lvs_spec.specs.Limits.{maxTag, bindingWords}
 use Rattle.lvs_spec.specs.Walk.{packetOrigin, keyOrigin, Binding, Bindings}
 use Rattle.lvs_spec.specs.Answers.{tagWords, words, boundCount}
-use Rattle.lvs_spec.proofs.Lists.{each-append}
 use Rattle.lvs_spec.proofs.Buffer.{words-length}
 use Rattle.lvs_bindings.specs.Slots.{Room, placeIn, originOf, bindingAt, binding, bindingsOf, WordsOf, Wrote}
 use Rattle.lvs_bindings.specs.declared.TagWords.{TagWords}
@@ -96,7 +95,8 @@ module _ {packet slots before buffer : List ℕ} {bound i : ℕ} (W : Written pa
     (enough : bindingWords ≤ length before) where
   -- the bindings of one Tag more
   taken : i < maxTag → (key : List ℕ)
-      → take (i + 1) (bindingsOf packet key slots) ≡ take i (bindingsOf packet key slots) ++ (binding packet key (getD slots (i * 2) 0) (getD slots (i * 2 + 1) 0) ∷ [])
+      → take (i + 1) (bindingsOf packet key slots) ≡
+      take i (bindingsOf packet key slots) ++ (binding packet key (getD slots (i * 2) 0) (getD slots (i * 2 + 1) 0) ∷ [])
   taken h key =
       let S : Bindings = bindingsOf packet key slots in
       let e : i + 1 ≡ suc i = omega arith in

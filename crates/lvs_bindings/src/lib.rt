@@ -1,5 +1,5 @@
-// The store of bindings: two words for each Tag, where its component is in the two names, and how long; and the three
-// words for each that a caller gets.
+// The store of bindings: two words for each Tag, where its component is in the two names, and how long; and the three words for each Tag
+// that a caller gets.
 //
 // A layer below the public calls: `requires` asks for words that the calls have made themselves, and for places and sizes that fit a word.
 ghost use mathlib.Core.Path.{_≡_};

@@ -1,18 +1,26 @@
 -- What a good name is. Assumes nothing.
 use Prim.Native.Nat.{ℕ, _+_, _≤_}
-use mathlib.Core.Path.{_≡_, refl, sym, ap, _∙_}
+use mathlib.Core.Path.{_≡_, refl, sym, ap, _∙_, subst}
 use mathlib.Core.Bool.{Bool, true, false, cond, _&&_}
-use mathlib.Core.List.{List, [], _∷_}
-use mathlib.Core.Option.{Option, none, some}
+use mathlib.Core.Logic.{_⊎_, inl, inr}
+use mathlib.Core.List.{List, [], _∷_, _++_, append-assoc, List·Memᴰ, List·Memᴰ·not-nil, List·Memᴰ·cases-cons}
+use mathlib.Core.Option.{Option, none, some, Option·none-ne-some, Option·some-injective}
 use native.Mathlib.Omega.{arith}
 use borrow.Author.Tests.{le-ltb, ltb-false, eqb-true}
 use lib.Dec.{ltb, eqb}
-use lib.ListN.{length}
-use Rattle.tlv.specs.Element.{Element, First, end, malformed, first, element, cuts}
+use lib.ListN.{length, length-append, length-drop, take, drop, take-append-drop}
+use lib.Seq.{take-at, drop-at, take-all, length-take-le}
+use Rattle.tlv.specs.Bytes.{Bytes}
+use Rattle.tlv.specs.Element.{Element, First, end, malformed, first, element, Cuts, done, broken, next, cuts, elementBytes, encode, nexts}
 use Rattle.tlv.specs.Lists.{guard}
+use Rattle.tlv.proofs.Bytes.{bytes-drop}
+use Rattle.tlv.proofs.Cuts.{element-whole}
+use Rattle.tlv.proofs.RoundTrip.{split-nexts, encode-split}
 use Rattle.lvs_spec.specs.Limits.{maxNameBytes, maxComponents}
 use Rattle.lvs_spec.specs.Types as type
 use Rattle.lvs_spec.specs.Names.{Component, badName, goodName, componentsAt, nameFrom, nameOf, rowReading, nameReading}
+use Rattle.lvs_spec.specs.Leaves.{isComponent}
+use Rattle.lvs_spec.specs.Demands.{StandsIn}
 use Rattle.lvs_spec.proofs.Lists.{clash, bind-from, guard-from}
 use Rattle.lvs_spec.proofs.Grammar.{both}
 
@@ -69,3 +77,53 @@ module _ (base : ℕ) (b : List ℕ) where
             let (n, g, _) = bind-from (guard (eqb (e .type) type.Name && eqb (length rest) 0) e) (λ n. componentsAt h (cuts (n .inside))) q in
             let t = both (eqb (e .type) type.Name) (eqb (length rest) 0) (guard-from _ e g .0) in
             (h, e, p ∙ ap (first h e) (none-left rest (eqb-true (length rest) 0 (t .1))))
+
+-- ---- where the components of a name stand
+
+-- behind what stands in front of a row
+row-stands : (es : List Element) (front : List ℕ) {at : ℕ} {cs : List Component} {c : Component} → length front ≡ at
+    → componentsAt at (nexts es done) ≡ some cs → List·Memᴰ c cs → StandsIn (front ++ encode es) c
+unfolding componentsAt encode
+row-stands [] front {cs = cs} {c = c} l h i = absurd (List·Memᴰ·not-nil (subst (List·Memᴰ c) (sym (Option·some-injective _ cs h)) i))
+row-stands (e ∷ es) front {at} {cs} {c} l h i =
+    let (ds, a, k) = bind-from (componentsAt (at + length (elementBytes e)) (nexts es done)) _ h in
+    let (t, same) = guard-from (isComponent e) _ k in
+    let longer = length-append front (elementBytes e) ∙ ap (λ n. n + length (elementBytes e)) l in
+    go (List·Memᴰ·cases-cons (subst (List·Memᴰ c) (sym same) i)) (row-stands es (front ++ elementBytes e) longer a)
+  where
+    go : {ds : List Component} → (c ≡ record { start = at; size = length (elementBytes e); content = e }) ⊎ List·Memᴰ c ds
+        → (List·Memᴰ c ds → StandsIn ((front ++ elementBytes e) ++ encode es) c) → StandsIn (front ++ (elementBytes e ++ encode es)) c
+    go (inl q) rest = record {
+      bytes-are = rw q (
+          ap (take (length (elementBytes e))) (drop-at front (elementBytes e ++ encode es) at l) ∙
+          take-at (elementBytes e) (encode es) (length (elementBytes e)) refl
+          );
+    }
+    go (inr m) rest = subst (λ b. StandsIn b c) (append-assoc front (elementBytes e) (encode es)) (rest m)
+
+-- a row of components is cut whole
+row-whole : (c : Cuts) (at : ℕ) {cs : List Component} → componentsAt at c ≡ some cs → (es : List Element) × (c ≡ nexts es done)
+unfolding componentsAt
+row-whole done at h = ([], refl)
+row-whole broken at {cs} h = absurd (Option·none-ne-some cs h)
+row-whole (next e c) at h =
+    let (ds, a, _) = bind-from (componentsAt (at + length (elementBytes e)) c) _ h in
+    let (es, p) = row-whole c (at + length (elementBytes e)) a in
+    (e ∷ es, ap (next e) p)
+
+-- behind the header of a name
+pub component-stands : (base : ℕ) (b : List ℕ) → Bytes b → {cs : List Component} → nameReading base b ≡ goodName cs → {c : Component} → List·Memᴰ c cs
+    → StandsIn b c
+unfolding nameOf nameFrom
+component-stands base b by {cs} good {c} i =
+    let (h, e, first-is) = good-element base b good in
+    let (n, g, row-is) = bind-from (guard (eqb (e .type) type.Name && eqb 0 0) e) _ (rw first-is at (good-components base b good)) in
+    let same : e ≡ n = guard-from (eqb (e .type) type.Name && eqb 0 0) e g .1 in
+    let w = element-whole b h e [] first-is in
+    let front : length (take h b) ≡ h = length-take-le h b (omega (arith, w .within)) in
+    let none-left : length b ≤ h + w .size = omega (arith, length-drop (h + w .size) b, ap length (w .rest-is)) in
+    let inside : e .inside ≡ drop h b = w .inside-is ∙ take-all (w .size) (drop h b) (omega (arith, length-drop h b, none-left)) in
+    let (es, cut) = row-whole (cuts (e .inside)) h (rw (← same) at row-is) in
+    let whole : encode es ≡ e .inside = encode-split (e .inside) (rw inside (bytes-drop h b by)) es (split-nexts (e .inside) es cut) in
+    let all : take h b ++ encode es ≡ b = ap (λ x. take h b ++ x) (whole ∙ inside) ∙ take-append-drop h b in
+    subst (λ x. StandsIn x c) all (row-stands es (take h b) front (rw cut at (rw (← same) at row-is)) i)

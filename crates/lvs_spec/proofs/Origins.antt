@@ -5,15 +5,20 @@ use mathlib.Core.Logic.{_⊎_, inl, inr, ⊎-elim}
 use mathlib.Core.List.{List, [], _∷_, List·Memᴰ, Memᴰ·cast}
 use mathlib.Core.Option.{Option, none, some}
 use lib.ListN.{getD, set}
+use Rattle.tlv.specs.Bytes.{Bytes}
 use Rattle.lvs_spec.specs.Limits.{maxTag}
 use Rattle.lvs_spec.specs.Model.{Model}
-use Rattle.lvs_spec.specs.Names.{Component}
-use Rattle.lvs_spec.specs.Walk.{packetOrigin, keyOrigin, Binding, rowOf, packetRow, keyRow, Bindings, noBindings, bound, Match, begin, matches}
+use Rattle.lvs_spec.specs.Names.{Component, packetName, keyName}
+use Rattle.lvs_spec.specs.Walk.{packetOrigin, keyOrigin, Binding, rowOf, Bindings, noBindings, bound, Match, begin, matches}
 use Rattle.lvs_spec.specs.Walk.{packetTrace, keyTrace, packetMatches, keyMatches}
-use Rattle.lvs_spec.specs.Demands.{FirstBound, unbound, by-packet, by-key, Allowed}
-use Rattle.lvs_spec.proofs.Lists.{clash, map-from}
+use Rattle.lvs_spec.specs.Answers.{Buffers}
+use Rattle.lvs_spec.specs.Demands.{StandsIn, Whose, in-packet, in-key, FirstBound, unbound, by-packet, by-key, Allowed}
+use Rattle.lvs_spec.proofs.Lists.{clash, first-in, map-from}
 use Rattle.lvs_spec.proofs.Trace.{walk-keeps}
 use Rattle.lvs_spec.proofs.Bindings.{Changed, stays, fills, cross-changed, none-there}
+use Rattle.lvs_spec.proofs.Names.{component-stands}
+use Rattle.lvs_spec.proofs.Matching.{MatchedBy}
+use Rattle.lvs_spec.proofs.Signing.{SignedBy}
 
 -- what a walk with the components of a name makes of a Tag: it keeps its binding, or is bound to one of them
 pub data Walked (origin : ℕ) (cs : List Component) (before after : Option Binding) : Type 0 where
@@ -100,3 +105,30 @@ module _ (m : Model) (ps ks : List Component) where
           let (o, i) = packet-bound m ps (a .packet-match) (suc j) e in
           let same : c ≡ d = cc in
           rw (e, f, same) (by-packet refl o i)
+
+-- ---- and stands there
+
+-- the binding of a match
+pub match-stands : {b name buffer after : List ℕ} {v n : ℕ} (by : MatchedBy b name buffer v n after) → Bytes name → (t : ℕ) {d : Binding}
+    → bound (by .match .bindings) t ≡ some d → (d .origin ≡ packetOrigin) × StandsIn name (d .component)
+unfolding packetName
+match-stands {name = name} by bytes t e =
+    let (o, i) = packet-bound (by .model) (by .components) (first-in _ (by .first-match)) t e in
+    (o, component-stands 21 name bytes (by .inputs .name-good) i)
+
+-- that of an allowed pair
+pub pair-stands : {b packet key : List ℕ} {s : Buffers} {p k : ℕ} {after : Buffers} (by : SignedBy b packet key s p k after) → Bytes packet → Bytes key
+    → (t : ℕ) {d : Binding} → bound (by .pair .key .bindings) t ≡ some d → Whose packet key d
+unfolding packetName keyName
+pair-stands {packet = packet} {key = key} by packet-bytes key-bytes t {d} e =
+    go (bound (by .pair .key .bindings) t) e (first-bound (by .model) (by .packet-components) (by .key-components) (by .allowed) t)
+  where
+    go : (o : Option Binding) → o ≡ some d → FirstBound (by .packet-components) (by .key-components) (bound (by .pair .packet .bindings) t) o
+        → Whose packet key d
+    go none e f = clash (cc)
+    go (some c) e (by-packet _ o i) =
+        let same : c ≡ d = cc in
+        subst (Whose packet key) same (in-packet o (component-stands 21 packet packet-bytes (by .inputs .packet-good) i))
+    go (some c) e (by-key _ o i) =
+        let same : c ≡ d = cc in
+        subst (Whose packet key) same (in-key o (component-stands 24 key key-bytes (by .inputs .key-good) i))

@@ -1,17 +1,17 @@
 -- Temporary Tags, those above the count of named ones (docs/format.md, 7.1): never bound, so that they are never compared, and no option or
 -- argument that names one holds. Assumes nothing.
-use Prim.Native.Nat.{ℕ, zero, suc, _+_, _*_, _≤_, _<_}
+use Prim.Native.Nat.{ℕ, zero, suc, _≤_, _<_}
 use mathlib.Core.Path.{_≡_, refl, sym, ap, _∙_, subst}
 use mathlib.Core.Bool.{false}
 use mathlib.Core.List.{List, [], _∷_, List·Memᴰ}
-use mathlib.Core.Option.{Option, none, some}
+use mathlib.Core.Option.{none, some}
 use native.Mathlib.Omega.{arith}
 use borrow.Author.Tests.{le-ltb}
-use lib.ListN.{length, drop, getD, replicate, List·getD-append}
+use lib.ListN.{getD}
 use lib.Seq.{getD-set-other}
 use Rattle.tlv.specs.Element.{Element}
 use Rattle.tlv.specs.Lists.{all}
-use Rattle.lvs_spec.specs.Limits.{maxTag, bindingWords}
+use Rattle.lvs_spec.specs.Limits.{maxTag}
 use Rattle.lvs_spec.specs.Model.{Model, Edge, PatternEdge, Term, Call, Argument, modelOf}
 use Rattle.lvs_spec.specs.Verdict.{Function, eq, eqType, isValidId, isValidYear, functionOf, arity}
 use Rattle.lvs_spec.specs.Names.{Component}

@@ -12,7 +12,7 @@ use Rattle.lvs_spec.specs.Model.{Model, modelOf}
 use Rattle.lvs_spec.specs.Names.{Component}
 use Rattle.lvs_spec.specs.Walk.{Match, Pair, Event, looked, found, continue, answers, begin, packetTrace, packetMatches}
 use Rattle.lvs_spec.specs.Walk.{keyTrace, pairPath, lists, signed, signTrace, pairTrace, pairs}
-use Rattle.lvs_spec.specs.Answers.{words, SignAnswer, SignOutcome, Buffers, pairBuffers, pairFound}
+use Rattle.lvs_spec.specs.Answers.{words, SignAnswer, Buffers, pairBuffers, pairFound}
 use Rattle.lvs_spec.specs.Demands.{RoomFor}
 use Rattle.lvs_spec.proofs.Lists.{clash, first-in}
 use Rattle.lvs_spec.proofs.Follow.{allowed-length}
