@@ -15,7 +15,7 @@ programs run one after the other; its least and largest value stand after it. `a
 
 Below these stand the signing calls without the verdict's share: the instructions that a call takes to read its two names and to walk, ours and
 the reference's, and those of the walk alone. The places of the Nodes, which the reference finds while it judges, are not in them; our pass
-that records them is a column of its own. For the bushy models it is the mean over pairs of names drawn evenly.
+that records them is a column of its own. Nor are the binding words, which both write once, at the end. For the bushy models it is the mean over pairs of names drawn evenly.
 
 Then what following a path takes, beside the verdict that it contains and the signing call that found the path: `over` is a following call
 without its verdict, `places` the pass that records the Nodes' places, `crossings` the steps through the two names, and `each` those for one
@@ -462,12 +462,13 @@ def walks():
 
 
 NAMES, WALK, PLACES, FOLLOW = "lvs_names::read_name", "lvs_walk::walk", "lvs_edges::nodes::node_places", "lvs_follow::follow_name"
-THEIRS = {"names": "*Name*load*", "walk": "*walk_from*"}  # as the reference calls the first two
+# as the reference calls the first two, and what it writes while it still walks, which ours does behind the walk
+THEIRS = {"names": "*Name*load*", "walk": "*walk_from*", "words": "*write_bindings*"}
 
 
 def walk_row(what, cases):
     ours, theirs = (lambda *inside, program=program: instructions(program, b"".join(cases), *inside) / len(cases) for program in PROGRAMS)
-    walk, their_walk = ours(WALK), theirs(THEIRS["walk"])
+    walk, their_walk = ours(WALK), theirs(THEIRS["walk"]) - (theirs(THEIRS["words"]) if "words" in THEIRS else 0)
     request, their_request = walk + ours(NAMES), their_walk + theirs(THEIRS["names"])
     print(f"{what:<28}{request:>10.0f}{their_request:>10.0f}{request / their_request:>7.2f}"
           f"{walk:>12.0f}{their_walk:>12.0f}{walk / their_walk:>7.2f}{ours(PLACES):>9.0f}", flush=True)
@@ -516,6 +517,7 @@ def main():
     second = "reference"
     if words[:1] == ["--against"]:
         second, PROGRAMS[1], words = "other", words[1], words[2:]
+        THEIRS.clear()
         THEIRS.update(names=NAMES, walk=WALK)
         if not has_origins(PROGRAMS[1]):
             WITHOUT_ORIGINS.append(PROGRAMS[1])

@@ -89,6 +89,7 @@ fn binding_words(buffer: &mut [u32]) -> Result<&mut [u32], Refusal> {
     words.ok_or(Reason::BufferTooShort.into())
 }
 
+#[inline(never)] // so that tools/speed.py can tell it from the walk that it is called in
 fn write_bindings(bindings: &Bindings, words: &mut [u32]) {
     let places = words.chunks_exact_mut(WORDS_OF_TAG);
     for (slot, place) in bindings.slots().iter().zip(places) {
