@@ -98,7 +98,7 @@ pub fn cross<'a>(
     cross_value(s, c, header)
 }
 
-// Crosses a ValueEdge. Where it leads is read only when the component passes.
+// Crosses a ValueEdge. Where it leads is read only when the component passes. A layer below: the walk, or the follower, has cut `c` out of a name.
 pub fn cross_value(s: &[u8], c: &[u8], header: usize) -> Crossing
     requires { ⌜ Alone (now c) header ⌝ }
     ensures { λ r. ⌜ CrossedValue (now (s .entry)) (now (c .entry)) r ⌝ }
