@@ -5,7 +5,7 @@ use mathlib.Core.List.{List, [], _∷_, map, map-append, map-map, map-id}
 use mathlib.Core.Option.{none, some}
 use Prim.Native.Nat.{ℕ, _≤_, _<_}
 use native.Mathlib.Omega.{arith}
-use borrow.Author.Tests.{eqb-true, eqb-false, eq-eqb, ne-eqb}
+use borrow.Author.Tests.{eqb-true}
 use lib.Dec.{eqb}
 use lib.ListN.{length, length-map}
 use Rattle.tlv.specs.Element.{Element, Cuts, done, broken, next, cuts}
@@ -14,6 +14,7 @@ use Rattle.tlv.specs.Fields.{eachCut, insideOf, insides, numberOf, integers, th
 use Rattle.lvs_spec.specs.Types as type
 use Rattle.lvs_spec.specs.Leaves.{marked}
 use Rattle.lvs_spec.specs.Model.{Term, argumentOf, termFrom, optionOf, constraintOf, valueEdgeOf, patternEdgeOf, nodeOf, symbolOf}
+use Rattle.lvs_spec.proofs.Lists.{eqb-sym}
 use Rattle.lvs_description.specs.Format.{Lists, Format, integer, text, many, within}
 use Rattle.lvs_description.specs.Description.{argument, term, option, constraint, valueEdge, patternEdge, node, symbol}
 use Rattle.lvs_describe.specs.Parts.{shown, row}
@@ -31,13 +32,6 @@ unfolding eachCut
 cuts-map h f g same done = refl
 cuts-map h f g same broken = refl
 cuts-map h f g same (next e c) = rw (same e, cuts-map h f g same c) (sym (map-append h (f e) (eachCut f c)))
-
-eqb-sym : (a b : ℕ) → eqb a b ≡ eqb b a
-eqb-sym a b = go (eqb b a) refl
-  where
-    go : (t : Bool) → eqb b a ≡ t → eqb a b ≡ t
-    go true e = eq-eqb a b (sym (eqb-true b a e))
-    go false e = ne-eqb a b (λ p. eqb-false b a e (sym p))
 
 -- where a sort has one type, its elements are the insides of that type
 module _ {A : Type 0} (k : Sort) (t : ℕ) (f : Format A) (g : List ℕ → A) (types : (u : ℕ) → isOf k u ≡ eqb u t)

@@ -18,11 +18,11 @@ use Rattle.tlv.proofs.RoundTrip.{cuts-encoded}
 use Rattle.lvs_spec.specs.Grammar as grammar
 use Rattle.lvs_spec.specs.Grammar.{Kind, Known, Item, meaning, order, step, final, the, once, known}
 use Rattle.lvs_spec.specs.WellFormed.{insideOk, wellFormedBy}
-use Rattle.lvs_spec.proofs.Grammar.{both, eachCut-nexts, Ordered}
+use Rattle.lvs_spec.proofs.Grammar.{both, neither, eachCut-nexts, Ordered}
 use Rattle.lvs_spec.proofs.Bare.{Small, Good, held}
 use Rattle.lvs_spec.proofs.Lists.{each-append, any-append}
 use Rattle.lvs_description.specs.Format.{Format, holds, _then_, under, many, maybe}
-use Rattle.lvs_description.proofs.Rows.{Short, short-left, short-right, inside-short, all-formed, all-back, map-each, neither}
+use Rattle.lvs_description.proofs.Rows.{Short, short-left, short-right, inside-short, all-formed, all-back, map-each}
 use Rattle.lvs_description.proofs.Rows.{apart, disjoint, distinct, not-member, Found, found, heavy, weight, weight-append, weight-le}
 use Rattle.lvs_description.proofs.Rows.{encode-append, holds-le, okay, Laid, end, put, past-many, past-maybe, laid-ranged, laid-order}
 use Rattle.lvs_description.proofs.Given.{Owes, Fine, AllFine, Given, given}

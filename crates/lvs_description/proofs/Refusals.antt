@@ -8,15 +8,11 @@ use Rattle.lvs_spec.specs.WellFormed.{tooLong}
 use Rattle.lvs_spec.specs.Places.{faultPlace}
 use Rattle.lvs_spec.specs.Model.{Model}
 use Rattle.lvs_spec.specs.Verdict.{Verdict, rules, judge, verdict}
-use Rattle.lvs_spec.specs.Demands.{modelRefusals}
+use Rattle.lvs_spec.specs.Demands.{ruleRefusals, modelRefusals}
 use Rattle.lvs_spec.proofs.Refusals.{decide-number}
 use Rattle.lvs_description.specs.Description.{modelBytes}
 use Rattle.lvs_description.specs.Answers.{noDescription, shortOutput}
 use Rattle.lvs_description.proofs.Theorem.{readingOf, verdictOf, written-judged}
-
--- rules 4 to 12
-abbrev ruleRefusals : List ℕ
-ruleRefusals = 4 ∷ 5 ∷ 6 ∷ 7 ∷ 8 ∷ 9 ∷ 10 ∷ 11 ∷ 12 ∷ []
 
 -- bytes that were written are never of another version (3)
 abbrev pub bytesRefusals : List ℕ

@@ -1,7 +1,7 @@
 -- A row of elements: how long it is, what stands in it by type, and that a row that was laid out by a container's order is in order exactly
 -- where each inside is well formed. Assumes nothing.
 use mathlib.Core.Path.{_≡_, refl, sym, ap, _∙_}
-use mathlib.Core.Bool.{Bool, true, false, _&&_, _||_, not, cond, false≢true}
+use mathlib.Core.Bool.{Bool, true, false, _&&_, not, cond, false≢true}
 use mathlib.Core.List.{List, [], _∷_, _++_, map, map-append}
 use mathlib.Core.Option.{none, some}
 use Prim.Native.Nat.{ℕ, _+_, _≤_, _<_, _^_}
@@ -16,7 +16,7 @@ use Rattle.tlv.proofs.Gathered.{all-append}
 use Rattle.tlv.proofs.Sizes.{length-encode, length-elementBytes, numberBytes-mono, all-in-range}
 use Rattle.lvs_spec.specs.Grammar.{Kind, Known, Item, Meaning, meaning, step, final, the, maybe, many, optional, critical, known}
 use Rattle.lvs_spec.specs.WellFormed.{insideOk, inOrder}
-use Rattle.lvs_spec.proofs.Grammar.{both, known-in-range, known-next, goesOn}
+use Rattle.lvs_spec.proofs.Grammar.{both, neither, known-in-range, known-next, goesOn}
 use Rattle.lvs_spec.proofs.Lists.{clash, each-append}
 use Rattle.lvs_description.specs.Format.{Format, holds}
 
@@ -29,11 +29,6 @@ Short b = length b < 2 ^ 64
 clear : (x : Bool) → not x ≡ true → x ≡ false
 clear true p = sym p
 clear false p = refl
-
--- of two tests neither passes
-pub neither : (x y : Bool) → (x || y) ≡ false → (x ≡ false) × (y ≡ false)
-neither true y p = absurd (false≢true (sym p))
-neither false y p = (refl, p)
 
 -- no type of the one list is in the other
 abbrev pub apart : List ℕ → List ℕ → Bool

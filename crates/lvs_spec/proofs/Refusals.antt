@@ -16,7 +16,7 @@ use Rattle.lvs_spec.specs.Model.{Model, modelOf}
 use Rattle.lvs_spec.specs.Verdict.{Verdict, Test, fault, rules, decide, judge, reading, verdict}
 use Rattle.lvs_spec.specs.Names.{Component, badName, goodName, nameOf, rowReading, nameReading, packetName, keyName}
 use Rattle.lvs_spec.specs.Answers.{Refusal, unusable, judged, usableModel}
-use Rattle.lvs_spec.specs.Demands.{modelRefusals, packetRefusals, keyRefusals, MalformedAt}
+use Rattle.lvs_spec.specs.Demands.{ruleRefusals, modelRefusals, packetRefusals, keyRefusals, MalformedAt}
 use Rattle.lvs_spec.proofs.Lists.{clash}
 use Rattle.lvs_spec.proofs.Grammar.{both}
 use Rattle.lvs_spec.proofs.Usable.{usable-verdict}
@@ -37,7 +37,7 @@ decide-number m (x ∷ rs) {r} {i} h = go (fault m (x .1)) refl (λ h. decide-nu
         let e : r ≡ x .0 = cc in
         List·Memᴰ·head e
 
--- a model is refused with 1 to 12
+-- a model is refused with 1 to 14
 pub verdict-number : (b : List ℕ) {r i : ℕ} → verdict b ≡ Verdict.refused r i → List·Memᴰ r modelRefusals
 unfolding verdict reading judge rules
 verdict-number b {r} {i} h = go (tooLong b) (otherVersion b) (faultPlace b) refl refl refl
@@ -82,7 +82,7 @@ refused-malformed b {p} h = go (tooLong b) (otherVersion b) (faultPlace b) refl 
         record { short = ltb-false maxModelBytes (length b) t; this = v; place = f ∙ ap some e }
     go false false none t v f = absurd (no-two (decide-number (modelOf b) (rules (modelOf b)) (rw (t, v, f, verdict, reading) at h)))
       where
-        no-two : List·Memᴰ {A = ℕ} 2 (4 ∷ 5 ∷ 6 ∷ 7 ∷ 8 ∷ 9 ∷ 10 ∷ 11 ∷ 12 ∷ []) → ⊥
+        no-two : List·Memᴰ {A = ℕ} 2 ruleRefusals → ⊥
         no-two i = false≢true (all-in (leb 3) i refl)
 
 -- and so it is by the other calls
