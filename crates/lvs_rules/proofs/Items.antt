@@ -10,14 +10,14 @@ use lib.ListN.{length, length-map}
 use Rattle.tlv.specs.Element.{Element, Cuts, done, broken as torn, next, cuts}
 use Rattle.tlv.specs.Lists.{when, is}
 use Rattle.lvs_spec.specs.Types as type
-use Rattle.lvs_spec.specs.Model.{Term, componentOf, argumentOf, callOf, termFrom, optionOf, constraintOf, valueEdgeOf, patternEdgeOf, nodeOf, symbolOf}
+use Rattle.lvs_spec.specs.Model.{Term, componentOf, argumentOf, callOf, termFrom, optionOf, constraintOf, patternEdgeOf, nodeOf, symbolOf}
 use Rattle.tlv.specs.Fields.{eachCut, insideOf, insides, numberOf, integers, theInteger, theInside}
-use Rattle.lvs_spec.specs.Verdict.{Function as Known, eq, eqType, isValidId, isValidYear, functionOf, arity, badCall}
+use Rattle.lvs_spec.specs.Verdict.{destinations, Function as Known, eq, eqType, isValidId, isValidYear, functionOf, arity, badCall}
 use Rattle.lvs_functions.specs.Functions.{functionRead}
 use Rattle.lvs_functions.specs.declared.Function.{Function}
 use Rattle.lvs_functions.specs.declared.Function.the-variants.{Eq, EqType, IsValidId, IsValidYear, Unknown}
 use Rattle.lvs_rules.specs.Lowest.{noRule, broken, leastOf, tagRule, argumentRule, argumentsRule, callRule, termRule, termsRule}
-use Rattle.lvs_rules.specs.Lowest.{optionRule, constraintRule, ownRule, signerRule, destinationRule, valueEdgeRule, patternEdgeRule, nodeRule}
+use Rattle.lvs_rules.specs.Lowest.{optionRule, constraintRule, namedRule, ownRule, rootRule, destinationsRule, patternEdgeRule, nodeRule}
 use Rattle.lvs_rules.specs.Lowest.{symbolRule}
 use Rattle.lvs_rules.specs.Sorts.{typeOf, itemRule}
 use Rattle.lvs_rules.specs.declared.Sort.{Sort}
@@ -105,63 +105,63 @@ option-terms b = terms-parts (cuts b)
 
 -- ---- each sort
 
-module _ (parents : List ℕ) (i : ℕ) (b : List ℕ) where
+module _ (n : ℕ) (b : List ℕ) where
   -- what a sweep over the elements of sort k in b answers
   abbrev swept : Sort → ℕ
-  swept k = leastOf (itemRule parents i k) (insides (typeOf k) b)
+  swept k = leastOf (itemRule n k) (insides (typeOf k) b)
 
   module _ {k : Sort} {r : ℕ} where
-    pub argument-item : k ≡ sort.Argument → r ≡ argumentRule (argumentOf b) → r ≡ itemRule parents i k b
+    pub argument-item : k ≡ sort.Argument → r ≡ argumentRule (argumentOf b) → r ≡ itemRule n k b
     unfolding itemRule
     argument-item e h = rw e h
 
-    pub call-item : {a x : ℕ} → k ≡ sort.Call → a ≡ argumentsRule (callOf b) → x ≡ swept sort.Argument → r ≡ min a x → r ≡ itemRule parents i k b
+    pub call-item : {a x : ℕ} → k ≡ sort.Call → a ≡ argumentsRule (callOf b) → x ≡ swept sort.Argument → r ≡ min a x → r ≡ itemRule n k b
     unfolding itemRule typeOf callRule callOf
     call-item e f g h = rw (e, h, f, g, least-map argumentRule argumentOf (insides type.UserFnArg b))
 
-    pub tag-item : {t : ℕ} → k ≡ sort.Tag → t ≡ numberOf b → r ≡ tagRule t → r ≡ itemRule parents i k b
+    pub tag-item : {t : ℕ} → k ≡ sort.Tag → t ≡ numberOf b → r ≡ tagRule t → r ≡ itemRule n k b
     unfolding itemRule
     tag-item e f h = rw (e, h, f)
 
     pub option-item : {a t c x : ℕ} → k ≡ sort.ConstraintOption → a ≡ termsRule (optionOf b) → t ≡ swept sort.Tag → c ≡ swept sort.Call
-        → x ≡ min t c → r ≡ min a x → r ≡ itemRule parents i k b
+        → x ≡ min t c → r ≡ min a x → r ≡ itemRule n k b
     unfolding itemRule typeOf optionRule tagIn callIn
     option-item e f g h p q = rw (e, q, p, f, g, h, option-terms b)
 
-    pub constraint-item : k ≡ sort.Constraint → r ≡ swept sort.ConstraintOption → r ≡ itemRule parents i k b
+    pub constraint-item : k ≡ sort.Constraint → r ≡ swept sort.ConstraintOption → r ≡ itemRule n k b
     unfolding itemRule typeOf constraintRule constraintOf
     constraint-item e h = rw (e, h, least-map optionRule optionOf (insides type.ConstraintOption b))
 
-    pub value-edge-item : {d : ℕ} → k ≡ sort.ValueEdge → d ≡ theInteger type.NodeId b → r ≡ destinationRule parents i d → r ≡ itemRule parents i k b
-    unfolding itemRule valueEdgeRule valueEdgeOf
-    value-edge-item e f h = rw (e, h, f)
-
-    pub pattern-edge-item : {t d a c x y : ℕ} → k ≡ sort.PatternEdge → t ≡ theInteger type.Tag b → a ≡ tagRule t → d ≡ theInteger type.NodeId b
-        → c ≡ destinationRule parents i d → x ≡ swept sort.Constraint → y ≡ min c x → r ≡ min a y → r ≡ itemRule parents i k b
+    pub pattern-edge-item : {t a x : ℕ} → k ≡ sort.PatternEdge → t ≡ theInteger type.Tag b → a ≡ tagRule t → x ≡ swept sort.Constraint → r ≡ min a x
+        → r ≡ itemRule n k b
     unfolding itemRule typeOf patternEdgeRule patternEdgeOf
-    pattern-edge-item e ft fa fd fc fx fy h = rw (e, h, fa, ft, fy, fc, fd, fx, least-map constraintRule constraintOf (insides type.Constraint b))
+    pattern-edge-item e ft fa fx h = rw (e, h, fa, ft, fx, least-map constraintRule constraintOf (insides type.Constraint b))
 
-    pub signer-item : {s : ℕ} → k ≡ sort.Signer → s ≡ numberOf b → r ≡ signerRule parents s → r ≡ itemRule parents i k b
+    pub signer-item : {s : ℕ} → k ≡ sort.Signer → s ≡ numberOf b → r ≡ namedRule 9 n s → r ≡ itemRule n k b
     unfolding itemRule
     signer-item e f h = rw (e, h, f)
 
-    pub symbol-item : {t : ℕ} → k ≡ sort.Symbol → t ≡ theInteger type.Tag b → r ≡ tagRule t → r ≡ itemRule parents i k b
+    pub symbol-item : {t : ℕ} → k ≡ sort.Symbol → t ≡ theInteger type.Tag b → r ≡ tagRule t → r ≡ itemRule n k b
     unfolding itemRule symbolRule symbolOf
     symbol-item e f h = rw (e, h, f)
 
-  pub node-item : {own v p s x y r : ℕ} → own ≡ ownRule i (nodeOf b) → v ≡ swept sort.ValueEdge → p ≡ swept sort.PatternEdge → s ≡ swept sort.Signer
-      → x ≡ min p s → y ≡ min v x → r ≡ min own y → r ≡ nodeRule parents i (nodeOf b)
-  unfolding itemRule typeOf nodeRule nodeOf integers
-  node-item fo fv fp fs fx fy h =
-      rw (
-        h,
-        fo,
-        fy,
-        fv,
-        fx,
-        fp,
-        fs,
-        least-map (valueEdgeRule parents i) valueEdgeOf (insides type.ValueEdge b),
-        least-map (patternEdgeRule parents i) patternEdgeOf (insides type.PatternEdge b),
-        least-map (signerRule parents) numberOf (insides type.SignConstraint b),
-      )
+-- a Node, where `parents` are those of n Nodes
+pub node-item : (start n i : ℕ) (parents b : List ℕ) {own root own′ to p s x y r : ℕ} → n ≡ length parents → own ≡ ownRule i (nodeOf b)
+    → root ≡ rootRule start i (nodeOf b) → own′ ≡ min own root → to ≡ destinationsRule parents i (destinations (nodeOf b))
+    → p ≡ swept n b sort.PatternEdge → s ≡ swept n b sort.Signer → x ≡ min p s → y ≡ min to x → r ≡ min own′ y → r ≡ nodeRule start parents i (nodeOf b)
+unfolding itemRule typeOf nodeRule nodeOf integers
+node-item start n i parents b count fo fr fo′ ft fp fs fx fy h =
+    rw (
+      h,
+      fo′,
+      fo,
+      fr,
+      fy,
+      ft,
+      fx,
+      fp,
+      fs,
+      ← count,
+      least-map patternEdgeRule patternEdgeOf (insides type.PatternEdge b),
+      least-map (namedRule 9 n) numberOf (insides type.SignConstraint b),
+    )

@@ -1,21 +1,24 @@
 -- The lowest rule that a Node breaks, as the code finds it element by element, is the lowest that the table's tests find in the Node's parts.
 -- Assumes nothing.
 use mathlib.Core.Path.{_≡_, refl, sym, ap, _∙_}
+use mathlib.Core.Bool.{Bool, true, false, cond, _&&_, not}
 use mathlib.Core.List.{List, map}
 use Prim.Native.Nat.{ℕ, _≤_, _<_, min}
 use native.Mathlib.Nat.{min-comm, min-eq-left}
 use native.Mathlib.Omega.{arith}
 use borrow.Author.Tests.{le-ltb}
-use lib.ListN.{length}
-use Rattle.tlv.specs.Lists.{each}
+use lib.Dec.{eqb}
+use lib.ListN.{length, length-map}
+use Rattle.tlv.specs.Lists.{each, isSome, twice}
 use Rattle.lvs_spec.specs.Limits.{maxNodes}
-use Rattle.lvs_spec.specs.Model.{Model, Node, PatternEdge, Edge, destination, edges, Symbol, Constraint, ConstraintOption, Term, Call, Argument}
-use Rattle.lvs_spec.specs.Verdict.{rules, destinations, options, terms, callsIn, calls, argumentTags, termTags, nodeTags, namesNone}
+use Rattle.lvs_spec.specs.Model.{Model, Node, PatternEdge, Symbol, Constraint, ConstraintOption, Term, Call, Argument}
+use Rattle.lvs_spec.specs.Verdict.{rules, destinations, options, terms, callsIn, calls, argumentTags, termTags, nodeTags, namesNone, startHasParent, twins}
 use Rattle.lvs_rules.specs.Lowest.{noRule, broken, leastOf, tagRule, argumentRule, argumentsRule, callRule, termRule, termsRule, optionRule}
 use Rattle.lvs_rules.specs.Lowest.{constraintRule}
-use Rattle.lvs_rules.specs.Lowest.{startRule, parentIndex, ownRule, signerRule, destinationRule, valueEdgeRule, patternEdgeRule, nodeRule, symbolRule}
+use Rattle.lvs_rules.specs.Lowest.{parentIndex, namedRule, ownRule, rootRule, destinationRule, destinationsRule, patternEdgeRule}
+use Rattle.lvs_rules.specs.Lowest.{nodeRule, symbolRule}
 use Rattle.lvs_rules.proofs.Least.{min-assoc, min-swap, least-same, least-append, least-both, least-map, least-each}
-use Rattle.lvs_rules.proofs.ParentWords.{none-named, destination-is}
+use Rattle.lvs_rules.proofs.ParentWords.{destination-is}
 use Rattle.lvs_rules.proofs.Rows.{Fits, fitting, firstRow, row-most, failsAt, failsOutside, row-node, row-outside}
 
 -- ---- the table
@@ -26,9 +29,20 @@ table-fits m = fitting 4 (rules m) refl
 
 -- a lemma for each kind of part: the code's test, and the rows of the table that ask something of it
 module _ (m : Model) where
-  own-row : (i : ℕ) (n : Node) → ownRule i n ≡ firstRow (λ a. a .node i n) (rules m)
-  unfolding ownRule rules broken
-  own-row i n = refl
+  node-row : (i : ℕ) (n : Node)
+      → min (ownRule i n) (min (rootRule (m .start) i n) (broken 14 (twice (destinations n)))) ≡ firstRow (λ a. a .node i n) (rules m)
+  unfolding ownRule rootRule rules broken startHasParent twins
+  node-row i n = go (not (eqb (n .id) i)) (eqb i (m .start) && isSome (n .parent)) (twice (destinations n))
+    where
+      go : (a b c : Bool) → min (cond a 6 noRule) (min (cond b 13 noRule) (cond c 14 noRule)) ≡ cond a 6 (cond b 13 (cond c 14 noRule))
+      go true true true = refl
+      go true true false = refl
+      go true false true = refl
+      go true false false = refl
+      go false true true = refl
+      go false true false = refl
+      go false false true = refl
+      go false false false = refl
 
   tag-row : (t : ℕ) → tagRule t ≡ firstRow (λ a. a .tag t) (rules m)
   unfolding tagRule rules broken
@@ -42,21 +56,21 @@ module _ (m : Model) where
   unfolding argumentsRule rules broken
   call-row c = refl
 
-  signer-row : (s : ℕ) → signerRule (map parentIndex (m .nodes)) s ≡ firstRow (λ a. a .signer s) (rules m)
-  unfolding signerRule rules broken
-  signer-row s = rw (none-named m s)
+  signer-row : (s : ℕ) → namedRule 9 (length (map parentIndex (m .nodes))) s ≡ firstRow (λ a. a .signer s) (rules m)
+  unfolding namedRule rules broken namesNone
+  signer-row s = rw (length-map (m .nodes) parentIndex)
 
   destination-row : {i : ℕ} → i < maxNodes → (d : ℕ) → destinationRule (map parentIndex (m .nodes)) i d ≡ firstRow (λ a. a .destination i d) (rules m)
   unfolding rules broken
   destination-row small d = destination-is m small d
 
-  start-row : length (m .nodes) ≤ maxNodes → startRule (length (m .nodes)) (m .start) ≡ firstRow (λ a. a .whole) (rules m)
-  unfolding startRule rules broken namesNone
+  start-row : length (m .nodes) ≤ maxNodes → namedRule 7 (length (m .nodes)) (m .start) ≡ firstRow (λ a. a .whole) (rules m)
+  unfolding namedRule rules broken namesNone
   start-row few = rw (le-ltb maxNodes (length (m .nodes)) few)
 
   -- TagSymbols and StartId
   pub outside-rows : length (m .nodes) ≤ maxNodes
-      → min (leastOf symbolRule (m .symbols)) (startRule (length (m .nodes)) (m .start)) ≡ firstRow (failsOutside m) (rules m)
+      → min (leastOf symbolRule (m .symbols)) (namedRule 7 (length (m .nodes)) (m .start)) ≡ firstRow (failsOutside m) (rules m)
   unfolding symbolRule
   outside-rows few =
       min-comm _ _ ∙
@@ -124,43 +138,27 @@ module _ (m : Model) (n : Node) where
       least-append tagRule (map (λ (e : PatternEdge). e .tag) (n .patternEdges)) (each termTags (terms n)) ∙
       rw (least-map tagRule (λ (e : PatternEdge). e .tag) (n .patternEdges))
 
-  module _ (parents : List ℕ) (i : ℕ) where
-    abbrev to : ℕ → ℕ
-    to d = destinationRule parents i d
+  patterns-are : leastOf patternEdgeRule (n .patternEdges) ≡
+      min (leastOf (λ (e : PatternEdge). tagRule (e .tag)) (n .patternEdges)) (min optionRules (min termTagRules callRules))
+  unfolding patternEdgeRule
+  patterns-are =
+      least-both (λ (e : PatternEdge). tagRule (e .tag)) (λ (e : PatternEdge). leastOf constraintRule (e .constraints)) (n .patternEdges) ∙
+      ap (min _) constraints-are
 
-    -- by edges of either kind
-    destinations-are : leastOf to (destinations n) ≡
-        min (leastOf (valueEdgeRule parents i) (n .valueEdges)) (leastOf (λ (e : PatternEdge). to (e .destination)) (n .patternEdges))
-    unfolding valueEdgeRule destinations edges destination
-    destinations-are =
-        least-map to destination (edges n) ∙
-        least-append (λ e. to (destination e)) (map Edge.value (n .valueEdges)) (map Edge.pattern (n .patternEdges)) ∙
-        rw (least-map (λ e. to (destination e)) Edge.value (n .valueEdges), least-map (λ e. to (destination e)) Edge.pattern (n .patternEdges))
+  parts-are : (start : ℕ) (parents : List ℕ) (i : ℕ)
+      → nodeRule start parents i n ≡
+      min (min (ownRule i n) (min (rootRule start i n) (broken 14 (twice (destinations n)))))
+      (min (leastOf tagRule (nodeTags n))
+      (min (leastOf (destinationRule parents i) (destinations n))
+      (min (leastOf (namedRule 9 (length parents)) (n .signers)) (min optionRules callRules))))
+  unfolding nodeRule destinationsRule
+  parts-are start parents i = rw (patterns-are, tags-are) (simp (min-assoc, min-comm, min-swap))
 
-    patterns-are : leastOf (patternEdgeRule parents i) (n .patternEdges) ≡
-        min (leastOf (λ (e : PatternEdge). tagRule (e .tag)) (n .patternEdges))
-        (min (leastOf (λ (e : PatternEdge). to (e .destination)) (n .patternEdges)) (min optionRules (min termTagRules callRules)))
-    unfolding patternEdgeRule
-    patterns-are =
-        least-both (λ (e : PatternEdge). tagRule (e .tag))
-        (λ (e : PatternEdge). min (to (e .destination)) (leastOf constraintRule (e .constraints)))
-        (n .patternEdges) ∙
-        ap (min _)
-        (least-both (λ (e : PatternEdge). to (e .destination)) (λ (e : PatternEdge). leastOf constraintRule (e .constraints)) (n .patternEdges) ∙
-        ap (min _) constraints-are)
-
-    parts-are : nodeRule parents i n ≡
-        min (ownRule i n)
-        (min (leastOf tagRule (nodeTags n))
-        (min (leastOf to (destinations n)) (min (leastOf (signerRule parents) (n .signers)) (min optionRules callRules))))
-    unfolding nodeRule
-    parts-are = rw (patterns-are, tags-are, destinations-are) (simp (min-assoc, min-comm, min-swap))
-
-  pub node-rows : {i : ℕ} → i < maxNodes → nodeRule (map parentIndex (m .nodes)) i n ≡ firstRow (λ a. failsAt a i n) (rules m)
+  pub node-rows : {i : ℕ} → i < maxNodes → nodeRule (m .start) (map parentIndex (m .nodes)) i n ≡ firstRow (λ a. failsAt a i n) (rules m)
   node-rows {i} small =
-      parts-are (map parentIndex (m .nodes)) i ∙
+      parts-are (m .start) (map parentIndex (m .nodes)) i ∙
       rw (
-        own-row m i n,
+        node-row m i n,
         least-same (tag-row m) (nodeTags n),
         least-same (destination-row m small) (destinations n),
         least-same (signer-row m) (n .signers),

@@ -8,7 +8,7 @@ use lib.ListN.{length}
 use Rattle.lvs_spec.specs.Limits.{maxNodes}
 use Rattle.lvs_spec.specs.Model.{Model}
 use Rattle.lvs_spec.specs.Verdict.{accepted, refused, rules, fault, decide, judge}
-use Rattle.lvs_rules.specs.Lowest.{noRule, leastOf, startRule, symbolRule, nodeRule, parentIndex}
+use Rattle.lvs_rules.specs.Lowest.{noRule, leastOf, namedRule, symbolRule, nodeRule, parentIndex}
 use Rattle.lvs_rules.specs.Faults.{lowest, named, verdictOf}
 use Rattle.lvs_rules.specs.declared.Fault.{Fault}
 use Rattle.lvs_rules.proofs.Nodes.{table-fits, node-rows, outside-rows}
@@ -16,12 +16,12 @@ use Rattle.lvs_rules.proofs.Pass.{decided-by}
 
 pub judge-few : (m : Model) → length (m .nodes) ≤ maxNodes
     → judge m ≡
-    verdictOf (lowest (nodeRule (map parentIndex (m .nodes))) (m .nodes))
-    (min (leastOf symbolRule (m .symbols)) (startRule (length (m .nodes)) (m .start)))
+    verdictOf (lowest (nodeRule (m .start) (map parentIndex (m .nodes))) (m .nodes))
+    (min (leastOf symbolRule (m .symbols)) (namedRule 7 (length (m .nodes)) (m .start)))
     (length (m .nodes))
 unfolding judge
 judge-few m few =
-    decided-by m (table-fits m) (nodeRule (map parentIndex (m .nodes))) _ (λ i h n. node-rows m n (omega arith)) (outside-rows m few)
+    decided-by m (table-fits m) (nodeRule (m .start) (map parentIndex (m .nodes))) _ (λ i h n. node-rows m n (omega arith)) (outside-rows m few)
 
 pub judge-many : (m : Model) → maxNodes < length (m .nodes) → judge m ≡ refused 4 0
 unfolding judge rules decide fault

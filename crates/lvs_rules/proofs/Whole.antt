@@ -9,7 +9,7 @@ use Rattle.lvs_spec.specs.Types as type
 use Rattle.tlv.specs.Fields.{insides, theInteger}
 use Rattle.lvs_spec.specs.Model.{nodeOf, symbolOf, modelOf}
 use Rattle.lvs_spec.specs.Verdict.{Verdict, refused, judge}
-use Rattle.lvs_rules.specs.Lowest.{leastOf, startRule, nodeRule, parentIndex, symbolRule}
+use Rattle.lvs_rules.specs.Lowest.{leastOf, namedRule, nodeRule, parentIndex, symbolRule}
 use Rattle.lvs_rules.specs.Sorts.{typeOf, itemRule}
 use Rattle.lvs_rules.specs.Faults.{lowestFrom, noFault, lowest, verdictOf}
 use Rattle.lvs_rules.specs.declared.Fault.{Fault}
@@ -35,15 +35,19 @@ module _ (s : List ℕ) {n : ℕ} (count : n ≡ length (insides type.Node s)) w
     pub as-many : n ≡ length (take n all)
     as-many = rw (count, filled, length-map)
 
+    pub few-enough : n ≤ maxNodes → (length (insides type.Node s) ≤ maxNodes) × (length (take n all) ≤ maxNodes)
+    few-enough few = let e = as-many in (omega arith, omega arith)
+
     all-parents : map parentIndex (modelOf s .nodes) ≡ take n all
     unfolding modelOf
     all-parents = map-map parentIndex nodeOf (insides type.Node s) ∙ sym filled ∙ rw count
 
-    nodes-fault : lowest (nodeRule (take n all)) (modelOf s .nodes) ≡ lowest (λ i b. nodeRule (take n all) i (nodeOf b)) (insides type.Node s)
+    nodes-fault : (start : ℕ)
+        → lowest (nodeRule start (take n all)) (modelOf s .nodes) ≡ lowest (λ i b. nodeRule start (take n all) i (nodeOf b)) (insides type.Node s)
     unfolding modelOf lowest
-    nodes-fault = lowest-map (nodeRule (take n all)) nodeOf noFault 0 (insides type.Node s)
+    nodes-fault start = lowest-map (nodeRule start (take n all)) nodeOf noFault 0 (insides type.Node s)
 
-    symbols-rule : leastOf symbolRule (modelOf s .symbols) ≡ leastOf (itemRule (take n all) 0 sort.Symbol) (insides (typeOf sort.Symbol) s)
+    symbols-rule : leastOf symbolRule (modelOf s .symbols) ≡ leastOf (itemRule n sort.Symbol) (insides (typeOf sort.Symbol) s)
     unfolding modelOf itemRule typeOf
     symbols-rule = least-map symbolRule symbolOf (insides type.TagSymbol s)
 
@@ -51,11 +55,12 @@ module _ (s : List ℕ) {n : ℕ} (count : n ≡ length (insides type.Node s)) w
     unfolding modelOf
     start-is = refl
 
-    pub found : {fault : Fault} {symbols start whole : ℕ} {v : Verdict} → n ≤ maxNodes
-        → fault ≡ lowest (λ i b. nodeRule (take n all) i (nodeOf b)) (insides type.Node s)
-        → symbols ≡ leastOf (itemRule (take n all) 0 sort.Symbol) (insides (typeOf sort.Symbol) s)
-        → start ≡ startRule n (theInteger type.NodeId s) → whole ≡ min symbols start → v ≡ verdictOf fault whole n
+    pub found : {start symbols named whole : ℕ} {fault : Fault} {v : Verdict} → n ≤ maxNodes → start ≡ theInteger type.NodeId s
+        → fault ≡ lowest (λ i b. nodeRule start (take n all) i (nodeOf b)) (insides type.Node s)
+        → symbols ≡ leastOf (itemRule n sort.Symbol) (insides (typeOf sort.Symbol) s)
+        → named ≡ namedRule 7 n start → whole ≡ min symbols named → v ≡ verdictOf fault whole n
         → v ≡ judge (modelOf s)
-    found few f g h w e =
+    found {start} few a f g h w e =
         let l = node-count in
-        rw (judge-few (modelOf s) (omega arith), all-parents, nodes-fault, symbols-rule, node-count, start-is, ← f, ← g, ← h, ← w) e
+        let at = start-is ∙ sym a in
+        rw (judge-few (modelOf s) (omega arith), all-parents, at, nodes-fault start, symbols-rule, node-count, ← f, ← g, ← h, ← w) e

@@ -1,13 +1,15 @@
 -- The lowest rule that a part of a Model breaks, for each part; noRule where it breaks none. Definitions only.
 use Prim.Native.Nat.{ℕ, min}
-use mathlib.Core.Bool.{Bool, cond, not}
+use mathlib.Core.Bool.{Bool, true, false, cond, _&&_, not}
+use mathlib.Core.Path.{_≡_}
 use mathlib.Core.List.{List, [], _∷_}
 use mathlib.Core.Option.{Option, none, some}
 use lib.Dec.{leb, ltb, eqb}
-use lib.ListN.{length, getD}
+use lib.ListN.{length, getD, set}
+use Rattle.tlv.specs.Lists.{isSome, twice}
 use Rattle.lvs_spec.specs.Limits.{maxNodes}
-use Rattle.lvs_spec.specs.Model.{Argument, Call, Term, ConstraintOption, Constraint, ValueEdge, PatternEdge, Node, Symbol}
-use Rattle.lvs_spec.specs.Verdict.{badTag, badCall}
+use Rattle.lvs_spec.specs.Model.{Argument, Call, Term, ConstraintOption, Constraint, PatternEdge, Node, Symbol}
+use Rattle.lvs_spec.specs.Verdict.{badTag, badCall, destinations}
 
 -- the largest number that the code's words hold; that the rules' numbers stay below it is checked with the table (`table-fits`)
 abbrev pub noRule : ℕ
@@ -59,36 +61,40 @@ parentFrom (some p) = cond (ltb p maxNodes) p maxNodes
 unfoldable pub parentIndex : Node → ℕ
 parentIndex n = parentFrom (n .parent)
 
--- of StartId, where there are n Nodes
-unfoldable pub startRule : ℕ → ℕ → ℕ
-startRule n start = broken 7 (leb n start)
+-- of an index that has to name one of n Nodes: rule 7 of StartId, 9 of a signer
+unfoldable pub namedRule : ℕ → ℕ → ℕ → ℕ
+namedRule r n index = broken r (leb n index)
 
--- of a Node itself; i is its index
+-- of a Node's NodeId; i is its index
 unfoldable pub ownRule : ℕ → Node → ℕ
 ownRule i n = broken 6 (not (eqb (n .id) i))
 
--- `parents` has each Node's Parent, so its length is the number of Nodes; i is the index of the Node at hand
-module _ (parents : List ℕ) where
-  unfoldable pub unnamed : ℕ → Bool
-  unnamed d = leb (length parents) d
+-- of its Parent
+unfoldable pub rootRule : ℕ → ℕ → Node → ℕ
+rootRule start i n = broken 13 (eqb i start && isSome (n .parent))
 
-  unfoldable pub signerRule : ℕ → ℕ
-  signerRule s = broken 9 (unnamed s)
+unfoldable pub patternEdgeRule : PatternEdge → ℕ
+patternEdgeRule e = min (tagRule (e .tag)) (leastOf constraintRule (e .constraints))
 
-  module _ (i : ℕ) where
-    unfoldable pub destinationRule : ℕ → ℕ
-    destinationRule d = cond (unnamed d) 8 (broken 11 (not (eqb i (getD parents d 0))))
+-- of its edges' destinations; `parents` has each Node's Parent, so its length is the number of Nodes
+module _ (parents : List ℕ) (i : ℕ) where
+  unfoldable pub destinationRule : ℕ → ℕ
+  destinationRule d = cond (leb (length parents) d) 8 (broken 11 (not (eqb i (getD parents d 0))))
 
-    unfoldable pub valueEdgeRule : ValueEdge → ℕ
-    valueEdgeRule e = destinationRule (e .destination)
+  unfoldable pub destinationsRule : List ℕ → ℕ
+  destinationsRule ds = min (leastOf destinationRule ds) (broken 14 (twice ds))
 
-    unfoldable pub patternEdgeRule : PatternEdge → ℕ
-    patternEdgeRule e = min (tagRule (e .tag)) (min (destinationRule (e .destination)) (leastOf constraintRule (e .constraints)))
+-- `seen` says which numbers are among the destinations before d: the answer to d, and what is seen after it. A number that `seen` has no room
+-- for, and so no Node has as its index, is not kept.
+pub record Noted (seen : List Bool) (d r : ℕ) (after : List Bool) : Type 0 where
+  pub rule : r ≡ broken 14 (getD seen d false)
+  pub kept : after ≡ set seen d true
 
-    unfoldable pub nodeRule : Node → ℕ
-    nodeRule n =
-        min (ownRule i n)
-        (min (leastOf valueEdgeRule (n .valueEdges)) (min (leastOf patternEdgeRule (n .patternEdges)) (leastOf signerRule (n .signers))))
+unfoldable pub nodeRule : ℕ → List ℕ → ℕ → Node → ℕ
+nodeRule start parents i n =
+    min (min (ownRule i n) (rootRule start i n))
+    (min (destinationsRule parents i (destinations n))
+    (min (leastOf patternEdgeRule (n .patternEdges)) (leastOf (namedRule 9 (length parents)) (n .signers))))
 
 unfoldable pub symbolRule : Symbol → ℕ
 symbolRule s = tagRule (s .tag)

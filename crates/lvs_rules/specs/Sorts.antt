@@ -3,10 +3,10 @@ use Prim.Native.Nat.{ℕ}
 use mathlib.Core.List.{List}
 use Rattle.lvs_spec.specs.Types as type
 use Rattle.tlv.specs.Fields.{numberOf}
-use Rattle.lvs_spec.specs.Model.{argumentOf, callOf, optionOf, constraintOf, valueEdgeOf, patternEdgeOf, symbolOf}
-use Rattle.lvs_rules.specs.Lowest.{argumentRule, callRule, tagRule, optionRule, constraintRule, valueEdgeRule, patternEdgeRule, signerRule, symbolRule}
+use Rattle.lvs_spec.specs.Model.{argumentOf, callOf, optionOf, constraintOf, patternEdgeOf, symbolOf}
+use Rattle.lvs_rules.specs.Lowest.{argumentRule, callRule, tagRule, optionRule, constraintRule, patternEdgeRule, namedRule, symbolRule}
 use Rattle.lvs_rules.specs.declared.Sort.{Sort}
-use Rattle.lvs_rules.specs.declared.Sort.the-variants.{Argument, Call, Tag, ConstraintOption, Constraint, ValueEdge, PatternEdge, Signer, Symbol}
+use Rattle.lvs_rules.specs.declared.Sort.the-variants.{Argument, Call, Tag, ConstraintOption, Constraint, PatternEdge, Signer, Symbol}
 
 unfoldable pub typeOf : Sort → ℕ
 typeOf Argument = type.UserFnArg
@@ -14,18 +14,17 @@ typeOf Call = type.UserFnCall
 typeOf Tag = type.Tag
 typeOf ConstraintOption = type.ConstraintOption
 typeOf Constraint = type.Constraint
-typeOf ValueEdge = type.ValueEdge
 typeOf PatternEdge = type.PatternEdge
 typeOf Signer = type.SignConstraint
 typeOf Symbol = type.TagSymbol
 
-unfoldable pub itemRule : List ℕ → ℕ → Sort → List ℕ → ℕ
-itemRule parents i Argument b = argumentRule (argumentOf b)
-itemRule parents i Call b = callRule (callOf b)
-itemRule parents i Tag b = tagRule (numberOf b)
-itemRule parents i ConstraintOption b = optionRule (optionOf b)
-itemRule parents i Constraint b = constraintRule (constraintOf b)
-itemRule parents i ValueEdge b = valueEdgeRule parents i (valueEdgeOf b)
-itemRule parents i PatternEdge b = patternEdgeRule parents i (patternEdgeOf b)
-itemRule parents i Signer b = signerRule parents (numberOf b)
-itemRule parents i Symbol b = symbolRule (symbolOf b)
+-- a signer is told by n, the number of Nodes
+unfoldable pub itemRule : ℕ → Sort → List ℕ → ℕ
+itemRule n Argument b = argumentRule (argumentOf b)
+itemRule n Call b = callRule (callOf b)
+itemRule n Tag b = tagRule (numberOf b)
+itemRule n ConstraintOption b = optionRule (optionOf b)
+itemRule n Constraint b = constraintRule (constraintOf b)
+itemRule n PatternEdge b = patternEdgeRule (patternEdgeOf b)
+itemRule n Signer b = namedRule 9 n (numberOf b)
+itemRule n Symbol b = symbolRule (symbolOf b)

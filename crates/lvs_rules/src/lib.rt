@@ -1,10 +1,12 @@
-// Rules 4 to 12 of the verdict: the table `rules` of lvs_spec. The top level is read four times: the Nodes are counted, their Parents read into
+// Rules 4 to 14 of the verdict: the table `rules` of lvs_spec. The top level is read four times: the Nodes are counted, their Parents read into
 // an array, each Node and all that it holds is tested, keeping the lowest rule broken and the first Node that breaks it, and the TagSymbols.
 // Any bytes have an answer: the definitions are total.
+mod destinations;
 mod numbers;
 mod options;
 mod parents;
 
+use destinations::destinations_rule;
 use lvs_spec::types::CONSTRAINT;
 use lvs_spec::types::CONSTRAINT_OPTION;
 use lvs_spec::types::NODE;
@@ -15,18 +17,16 @@ use lvs_spec::types::TAG;
 use lvs_spec::types::TAG_SYMBOL;
 use lvs_spec::types::USER_FN_ARG;
 use lvs_spec::types::USER_FN_CALL;
-use lvs_spec::types::VALUE_EDGE;
 use numbers::NO_RULE;
-use numbers::destination_rule;
+use numbers::named_rule;
 use numbers::own_rule;
-use numbers::signer_rule;
-use numbers::start_rule;
 use numbers::tag_rule;
 use options::argument_rule;
 use options::arguments_rule;
 use options::count_of;
 use options::terms_rule;
 use parents::parents_of;
+use parents::root_rule;
 use tlv::Place;
 use tlv::Read;
 ghost use mathlib.Core.Path.{_≡_};
@@ -59,7 +59,6 @@ enum Sort {
     Tag,
     ConstraintOption,
     Constraint,
-    ValueEdge,
     PatternEdge,
     Signer,
     Symbol,
@@ -75,10 +74,10 @@ pub fn check_rules(model: &[u8]) -> Judged
     }
     let all = parents_of(model);
     let parents = &all[..n];
-    let fault = lowest_fault(model, parents);
-    let symbols = sweep(model, Sort::Symbol, 0, parents);
-    let start = start_rule(model, n);
-    conclude(fault, lower(symbols, start), n as u32)
+    let start = tlv::number_in(model, NODE_ID);
+    let fault = lowest_fault(model, start, parents);
+    let symbols = sweep(model, Sort::Symbol, n);
+    conclude(fault, lower(symbols, named_rule(7, start, n)), n as u32)
 }
 
 // Of `fault`, in the Nodes, and `whole`, outside of them, the lower rule decides. A Tag's fault, and any outside of the Nodes, names no Node.
@@ -105,12 +104,12 @@ fn conclude(fault: Fault, whole: u32, nodes: u32) -> Judged
 }
 
 // The lowest rule that a Node breaks, with the first Node that breaks it.
-fn lowest_fault(model: &[u8], parents: &[u32]) -> Fault
-    requires { ⌜ length (insides type.Node (now model)) ≤ maxNodes ⌝ }
+fn lowest_fault(model: &[u8], start: u64, parents: &[u32]) -> Fault
+    requires { ⌜ (length (insides type.Node (now model)) ≤ maxNodes) × (length (now parents) ≤ maxNodes) ⌝ }
     ensures { λ r.
         ⌜
         r ≡
-        lowest (λ i b. nodeRule (now (parents .entry)) i (nodeOf b)) (insides type.Node (now (model .entry)))
+        lowest (λ i b. nodeRule start (now (parents .entry)) i (nodeOf b)) (insides type.Node (now (model .entry)))
         ⌝ }
 {
     let mut fault = Fault {
@@ -123,13 +122,13 @@ fn lowest_fault(model: &[u8], parents: &[u32]) -> Fault
         match place.element(model) {
             Read::Found {
                 typ,
-                start,
+                start: from,
                 end,
                 next,
             } => {
                 place = next;
                 if typ == NODE {
-                    let rule = node_rule(&model[start..end], i, parents);
+                    let rule = node_rule(&model[from..end], i, start, parents);
                     fault = earlier(fault, Fault { rule, node: i });
                     i += 1;
                 }
@@ -151,19 +150,20 @@ fn earlier(a: Fault, b: Fault) -> Fault
 }
 
 // The lowest rule that the Node with index `i` breaks.
-fn node_rule(node: &[u8], i: u32, parents: &[u32]) -> u32
-    ensures { λ r. ⌜ r ≡ nodeRule (now (parents .entry)) i (nodeOf (now (node .entry))) ⌝ }
+fn node_rule(node: &[u8], i: u32, start: u64, parents: &[u32]) -> u32
+    requires { ⌜ length (now parents) ≤ maxNodes ⌝ }
+    ensures { λ r. ⌜ r ≡ nodeRule start (now (parents .entry)) i (nodeOf (now (node .entry))) ⌝ }
 {
-    let own = own_rule(node, i);
-    let values = sweep(node, Sort::ValueEdge, i, parents);
-    let patterns = sweep(node, Sort::PatternEdge, i, parents);
-    let signers = sweep(node, Sort::Signer, i, parents);
-    lower(own, lower(values, lower(patterns, signers)))
+    let own = lower(own_rule(node, i), root_rule(node, i, start));
+    let edges = destinations_rule(node, i, parents);
+    let patterns = sweep(node, Sort::PatternEdge, parents.len());
+    let signers = sweep(node, Sort::Signer, parents.len());
+    lower(own, lower(edges, lower(patterns, signers)))
 }
 
-// The lowest rule that the elements of one sort in `s` break.
-fn sweep(s: &[u8], sort: Sort, i: u32, parents: &[u32]) -> u32
-    ensures { λ r. ⌜ r ≡ leastOf (itemRule (now (parents .entry)) i sort) (insides (typeOf sort) (now (s .entry))) ⌝ }
+// The lowest rule that the elements of one sort in `s` break; there are `n` Nodes.
+fn sweep(s: &[u8], sort: Sort, n: usize) -> u32
+    ensures { λ r. ⌜ r ≡ leastOf (itemRule n sort) (insides (typeOf sort) (now (s .entry))) ⌝ }
 {
     let wanted = type_of(sort);
     let mut rule = NO_RULE;
@@ -178,7 +178,7 @@ fn sweep(s: &[u8], sort: Sort, i: u32, parents: &[u32]) -> u32
             } => {
                 place = next;
                 if typ == wanted {
-                    rule = lower(rule, item_rule(&s[start..end], sort, i, parents));
+                    rule = lower(rule, item_rule(&s[start..end], sort, n));
                 }
             }
             Read::End => {
@@ -192,26 +192,24 @@ fn sweep(s: &[u8], sort: Sort, i: u32, parents: &[u32]) -> u32
 }
 
 // The lowest rule that one element breaks, itself or by what it holds. `b` is its inside.
-fn item_rule(b: &[u8], sort: Sort, i: u32, parents: &[u32]) -> u32
-    ensures { λ r. ⌜ r ≡ itemRule (now (parents .entry)) i sort (now (b .entry)) ⌝ }
+fn item_rule(b: &[u8], sort: Sort, n: usize) -> u32
+    ensures { λ r. ⌜ r ≡ itemRule n sort (now (b .entry)) ⌝ }
 {
     match sort {
         Sort::Argument => argument_rule(b),
-        Sort::Call => lower(arguments_rule(b), sweep(b, Sort::Argument, i, parents)),
+        Sort::Call => lower(arguments_rule(b), sweep(b, Sort::Argument, n)),
         Sort::Tag => tag_rule(tlv::number_of(b)),
         Sort::ConstraintOption => {
-            let tags = sweep(b, Sort::Tag, i, parents);
-            let calls = sweep(b, Sort::Call, i, parents);
+            let tags = sweep(b, Sort::Tag, n);
+            let calls = sweep(b, Sort::Call, n);
             lower(terms_rule(b), lower(tags, calls))
         }
-        Sort::Constraint => sweep(b, Sort::ConstraintOption, i, parents),
-        Sort::ValueEdge => destination_rule(tlv::number_in(b, NODE_ID), i, parents),
+        Sort::Constraint => sweep(b, Sort::ConstraintOption, n),
         Sort::PatternEdge => {
             let tag = tag_rule(tlv::number_in(b, TAG));
-            let to = destination_rule(tlv::number_in(b, NODE_ID), i, parents);
-            lower(tag, lower(to, sweep(b, Sort::Constraint, i, parents)))
+            lower(tag, sweep(b, Sort::Constraint, n))
         }
-        Sort::Signer => signer_rule(tlv::number_of(b), parents),
+        Sort::Signer => named_rule(9, tlv::number_of(b), n),
         Sort::Symbol => tag_rule(tlv::number_in(b, TAG)),
     }
 }
@@ -225,7 +223,6 @@ fn type_of(sort: Sort) -> u32
         Sort::Tag => TAG,
         Sort::ConstraintOption => CONSTRAINT_OPTION,
         Sort::Constraint => CONSTRAINT,
-        Sort::ValueEdge => VALUE_EDGE,
         Sort::PatternEdge => PATTERN_EDGE,
         Sort::Signer => SIGN_CONSTRAINT,
         Sort::Symbol => TAG_SYMBOL,

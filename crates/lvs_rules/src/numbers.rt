@@ -1,10 +1,7 @@
-// The rules that ask something of one number: 5 to 9 and 11.
+// The rules that ask something of one number: 5, 6, 7 and 9.
 ghost use mathlib.Core.Path.{_≡_};
-ghost use Prim.Native.Nat.{_<_};
-ghost use Rattle.tlv.specs.Fields.{theInteger};
 ghost use Rattle.lvs_spec.specs.Model.{nodeOf};
-ghost use Rattle.lvs_spec.specs.Types as type;
-ghost use Rattle.lvs_rules.specs.Lowest.{tagRule, startRule, ownRule, destinationRule, signerRule};
+ghost use Rattle.lvs_rules.specs.Lowest.{tagRule, ownRule, namedRule};
 use lvs_spec::types::NODE_ID;
 
 // Above every rule's number: none is broken.
@@ -31,36 +28,9 @@ pub(crate) fn own_rule(node: &[u8], i: u32) -> u32
     if id == i as u64 { NO_RULE } else { 6 }
 }
 
-// Rule 7: StartId names a Node; there are `n`.
-pub(crate) fn start_rule(model: &[u8], n: usize) -> u32
-    ensures { λ r. ⌜ r ≡ startRule n (theInteger type.NodeId (now (model .entry))) ⌝ }
+// Rules 7 and 9: StartId, or a SignConstraint, names a Node; there are `n`.
+pub(crate) fn named_rule(rule: u32, index: u64, n: usize) -> u32
+    ensures { λ r. ⌜ r ≡ namedRule rule n index ⌝ }
 {
-    let start = tlv::number_in(model, NODE_ID);
-    if n as u64 <= start { 7 } else { NO_RULE }
-}
-
-// Rules 8 and 11: a destination names a Node, whose Parent is the Node with index `i`.
-pub(crate) fn destination_rule(d: u64, i: u32, parents: &[u32]) -> u32
-    ensures { λ r. ⌜ r ≡ destinationRule (now (parents .entry)) i d ⌝ }
-{
-    if parents.len() as u64 <= d {
-        return 8;
-    }
-    let at = d as usize;
-    let parent = parents[at];
-    if parent != i {
-        return 11;
-    }
-    NO_RULE
-}
-
-// Rule 9: a SignConstraint names a Node.
-pub(crate) fn signer_rule(signer: u64, parents: &[u32]) -> u32
-    ensures { λ r. ⌜ r ≡ signerRule (now (parents .entry)) signer ⌝ }
-{
-    if parents.len() as u64 <= signer {
-        9
-    } else {
-        NO_RULE
-    }
+    if n as u64 <= index { rule } else { NO_RULE }
 }

@@ -1,4 +1,4 @@
-// The Parent of each Node, by its index.
+// The Parent of each Node, by its index; and rule 13.
 ghost use mathlib.Core.Path.{_≡_};
 ghost use mathlib.Core.List.{map};
 ghost use mathlib.Core.Option.{some};
@@ -8,7 +8,9 @@ ghost use Rattle.lvs_spec.specs.Limits.{maxNodes};
 ghost use Rattle.lvs_spec.specs.Model.{nodeOf};
 ghost use Rattle.tlv.specs.Fields.{insides};
 ghost use Rattle.lvs_spec.specs.Types as type;
-ghost use Rattle.lvs_rules.specs.Lowest.{parentFrom, parentIndex};
+ghost use Rattle.lvs_rules.specs.Lowest.{parentFrom, parentIndex, rootRule};
+use crate::numbers::NO_RULE;
+use crate::options::count_of;
 use lvs_spec::types::NODE;
 use lvs_spec::types::PARENT;
 use tlv::Place;
@@ -16,6 +18,20 @@ use tlv::Read;
 
 // No Node's index: the Parent of a Node that has none.
 const NO_NODE: u32 = lvs_spec::MAX_NODES as u32;
+
+// Rule 13: the Node that StartId names has no Parent.
+pub(crate) fn root_rule(node: &[u8], i: u32, start: u64) -> u32
+    ensures { λ r. ⌜ r ≡ rootRule start i (nodeOf (now (node .entry))) ⌝ }
+{
+    if i as u64 != start {
+        return NO_RULE;
+    }
+    if count_of(node, PARENT) == 0 {
+        NO_RULE
+    } else {
+        13
+    }
+}
 
 // Each Node's Parent, by the Node's index.
 pub(crate) fn parents_of(model: &[u8]) -> [u32; lvs_spec::MAX_NODES]

@@ -12,7 +12,7 @@ use Rattle.tlv.proofs.Cuts.{seen, SeenOf}
 use Rattle.tlv.proofs.Gathered.{stop-end, stop-malformed, insides-other, insides-stop, Gathered, passed, ended}
 use Rattle.lvs_rules.specs.Sorts.{typeOf, itemRule}
 use Rattle.lvs_rules.proofs.Loops.{least, none-swept, sweep-found}
-use Rattle.lvs_rules.proofs.Items.{argument-item, call-item, tag-item, option-item, constraint-item, value-edge-item, pattern-edge-item}
+use Rattle.lvs_rules.proofs.Items.{argument-item, call-item, tag-item, option-item, constraint-item, pattern-edge-item}
 use Rattle.lvs_rules.proofs.Items.{signer-item, symbol-item}
 use Rattle.lvs_rules.proofs.item_rule.Reads as item-rule
 use Rattle.lvs_rules.proofs.item_rule.Kinds as item-rule-kinds
@@ -24,9 +24,8 @@ use Rattle.tlv.proofs.number_in.Reads as number-in-reads
 use Rattle.tlv.proofs.number_of.Reads as number-of-reads
 use Rattle.lvs_rules.proofs.options.argument_rule.Reads as argument-rule-reads
 use Rattle.lvs_rules.proofs.options.arguments_rule.Reads as arguments-rule-reads
-use Rattle.lvs_rules.proofs.numbers.destination_rule.Reads as destination-rule-reads
 use Rattle.lvs_rules.proofs.lower.Reads as lower-reads
-use Rattle.lvs_rules.proofs.numbers.signer_rule.Reads as signer-rule-reads
+use Rattle.lvs_rules.proofs.numbers.named_rule.Reads as named-rule-reads
 use Rattle.lvs_rules.proofs.numbers.tag_rule.Reads as tag-rule-reads
 use Rattle.lvs_rules.proofs.options.terms_rule.Reads as terms-rule-reads
 use Rattle.lvs_rules.proofs.type_of.Reads as type-of-reads
@@ -34,24 +33,24 @@ use Rattle.tlv.proofs.Place.element.Reads as element-reads
 use Rattle.lvs_rules.proofs.+item_rule+sweep.{statement}
 use Rattle.lvs_rules.proofs.+item_rule+sweep.Tie.{close}
 
-abbrev μ-item-rule : Measures 2 item-rule-kinds.ps ℕ
+abbrev μ-item-rule : Measures 1 item-rule-kinds.ps ℕ
 μ-item-rule κs a = 2 * length (a .0 .now) + 1
 
-abbrev μ-sweep : Measures 2 sweep-kinds.ps ℕ
+abbrev μ-sweep : Measures 1 sweep-kinds.ps ℕ
 μ-sweep κs a = 2 * length (a .0 .now)
 
-abbrev item-rule-at : ℕ → In 2 item-rule-kinds.ps
-item-rule-at t = and 2 item-rule-kinds.ps (is 2 item-rule-kinds.ps μ-item-rule t) item-rule.Pre
+abbrev item-rule-at : ℕ → In 1 item-rule-kinds.ps
+item-rule-at t = and 1 item-rule-kinds.ps (is 1 item-rule-kinds.ps μ-item-rule t) item-rule.Pre
 
-abbrev item-rule-below : ℕ → In 2 item-rule-kinds.ps
+abbrev item-rule-below : ℕ → In 1 item-rule-kinds.ps
 item-rule-below t =
-    and 2 item-rule-kinds.ps (falls 2 item-rule-kinds.ps _<_ μ-item-rule t) item-rule.Pre
+    and 1 item-rule-kinds.ps (falls 1 item-rule-kinds.ps _<_ μ-item-rule t) item-rule.Pre
 
-abbrev sweep-at : ℕ → In 2 sweep-kinds.ps
-sweep-at t = and 2 sweep-kinds.ps (is 2 sweep-kinds.ps μ-sweep t) sweep.Pre
+abbrev sweep-at : ℕ → In 1 sweep-kinds.ps
+sweep-at t = and 1 sweep-kinds.ps (is 1 sweep-kinds.ps μ-sweep t) sweep.Pre
 
-abbrev sweep-below : ℕ → In 2 sweep-kinds.ps
-sweep-below t = and 2 sweep-kinds.ps (falls 2 sweep-kinds.ps _<_ μ-sweep t) sweep.Pre
+abbrev sweep-below : ℕ → In 1 sweep-kinds.ps
+sweep-below t = and 1 sweep-kinds.ps (falls 1 sweep-kinds.ps _<_ μ-sweep t) sweep.Pre
 
 abbrev item-rule-calls : ℕ → item-rule-lts.Claims
 item-rule-calls t = (
@@ -71,73 +70,64 @@ item-rule-calls t = (
   terms-rule-reads.Learnt,
   number-in-reads.Asked,
   number-in-reads.Learnt,
-  destination-rule-reads.Asked,
-  destination-rule-reads.Learnt,
-  signer-rule-reads.Asked,
-  signer-rule-reads.Learnt,
+  named-rule-reads.Asked,
+  named-rule-reads.Learnt,
 )
 
-abbrev item-rule-need : (item-rule-lts.Claims → In 2 item-rule-kinds.ps → Out 2 item-rule-kinds.ps item-rule-kinds.r → Type 0) → ℕ → Type 0
+abbrev item-rule-need : (item-rule-lts.Claims → In 1 item-rule-kinds.ps → Out 1 item-rule-kinds.ps item-rule-kinds.r → Type 0) → ℕ → Type 0
 item-rule-need N t = N (item-rule-calls t) (item-rule-at t) item-rule.Post
 
 item-rule-sweep-requires : (t : ℕ) → item-rule-need item-rule-lts.Need-sweep-requires t
-item-rule-sweep-requires t c κs = (omega (arith, c .before .before .before .before .before .pre .0), tt)
+item-rule-sweep-requires t c κs = (omega (arith, c .before .before .before .before .pre .0), tt)
 
 item-rule-sweep-requires-2 : (t : ℕ) → item-rule-need item-rule-lts.Need-sweep-requires-2 t
-item-rule-sweep-requires-2 t c κs = (omega (arith, c .before .before .before .before .pre .0), tt)
+item-rule-sweep-requires-2 t c κs = (omega (arith, c .before .before .before .pre .0), tt)
 
 item-rule-sweep-requires-3 : (t : ℕ) → item-rule-need item-rule-lts.Need-sweep-requires-3 t
-item-rule-sweep-requires-3 t c κs = (omega (arith, c .before .before .before .before .before .pre .0), tt)
+item-rule-sweep-requires-3 t c κs = (omega (arith, c .before .before .before .before .pre .0), tt)
 
 item-rule-sweep-requires-4 : (t : ℕ) → item-rule-need item-rule-lts.Need-sweep-requires-4 t
-item-rule-sweep-requires-4 t c κs = (omega (arith, c .before .before .before .before .pre .0), tt)
+item-rule-sweep-requires-4 t c κs = (omega (arith, c .before .before .before .pre .0), tt)
 
 item-rule-sweep-requires-5 : (t : ℕ) → item-rule-need item-rule-lts.Need-sweep-requires-5 t
-item-rule-sweep-requires-5 t c κs = (omega (arith, c .before .before .before .before .before .before .before .before .pre .0), tt)
+item-rule-sweep-requires-5 t c κs = (omega (arith, c .before .before .before .before .before .pre .0), tt)
 
 item-rule-returns : (t : ℕ) → item-rule-need item-rule-lts.Need-returns t
-item-rule-returns t c = argument-item _ _ _ (c .before .enum-told .given .1) (c .argument-rule .ensures)
+item-rule-returns t c = argument-item _ _ (c .before .enum-told .given .1) (c .argument-rule .ensures)
 
 item-rule-returns-2 : (t : ℕ) → item-rule-need item-rule-lts.Need-returns-2 t
 item-rule-returns-2 t c =
     let own = c .before .before in
-    call-item _ _ _ (own .before .enum-told2 .given .1) (own .arguments-rule .ensures) (c .before .sweep .ensures) (c .lower .ensures)
+    call-item _ _ (own .before .enum-told2 .given .1) (own .arguments-rule .ensures) (c .before .sweep .ensures) (c .lower .ensures)
 
 item-rule-returns-3 : (t : ℕ) → item-rule-need item-rule-lts.Need-returns-3 t
-item-rule-returns-3 t c = tag-item _ _ _ (c .before .before .enum-told3 .given .1) (c .before .number-of .ensures) (c .tag-rule .ensures)
+item-rule-returns-3 t c = tag-item _ _ (c .before .before .enum-told3 .given .1) (c .before .number-of .ensures) (c .tag-rule .ensures)
 
 item-rule-returns-4 : (t : ℕ) → item-rule-need item-rule-lts.Need-returns-4 t
 item-rule-returns-4 t c =
     let own = c .before .before in
     let calls = own .before in
     let tags = calls .before in
-    option-item _ _ _ (tags .before .enum-told4 .given .1) (own .terms-rule .ensures) (tags .sweep2 .ensures) (calls .sweep3 .ensures)
+    option-item _ _ (tags .before .enum-told4 .given .1) (own .terms-rule .ensures) (tags .sweep2 .ensures) (calls .sweep3 .ensures)
     (c .before .lower2 .ensures)
     (c .lower3 .ensures)
 
 item-rule-returns-5 : (t : ℕ) → item-rule-need item-rule-lts.Need-returns-5 t
-item-rule-returns-5 t c = constraint-item _ _ _ (c .before .enum-told5 .given .1) (c .sweep4 .ensures)
+item-rule-returns-5 t c = constraint-item _ _ (c .before .enum-told5 .given .1) (c .sweep4 .ensures)
 
 item-rule-returns-6 : (t : ℕ) → item-rule-need item-rule-lts.Need-returns-6 t
-item-rule-returns-6 t c = value-edge-item _ _ _ (c .before .before .enum-told6 .given .1) (c .before .number-in .ensures) (c .destination-rule .ensures)
+item-rule-returns-6 t c =
+    let constraints = c .before in
+    let tag = constraints .before in
+    pattern-edge-item _ _ (tag .before .before .enum-told6 .given .1) (tag .before .number-in .ensures) (tag .tag-rule2 .ensures)
+    (constraints .sweep5 .ensures)
+    (c .lower4 .ensures)
 
 item-rule-returns-7 : (t : ℕ) → item-rule-need item-rule-lts.Need-returns-7 t
-item-rule-returns-7 t c =
-    let constraints = c .before .before in
-    let to = constraints .before in
-    let tag = to .before .before in
-    pattern-edge-item _ _ _ (tag .before .before .enum-told7 .given .1) (tag .before .number-in2 .ensures) (tag .tag-rule2 .ensures)
-    (to .before .number-in3 .ensures)
-    (to .destination-rule2 .ensures)
-    (constraints .sweep5 .ensures)
-    (c .before .lower4 .ensures)
-    (c .lower5 .ensures)
+item-rule-returns-7 t c = signer-item _ _ (c .before .before .enum-told7 .given .1) (c .before .number-of2 .ensures) (c .named-rule .ensures)
 
 item-rule-returns-8 : (t : ℕ) → item-rule-need item-rule-lts.Need-returns-8 t
-item-rule-returns-8 t c = signer-item _ _ _ (c .before .before .enum-told8 .given .1) (c .before .number-of2 .ensures) (c .signer-rule .ensures)
-
-item-rule-returns-9 : (t : ℕ) → item-rule-need item-rule-lts.Need-returns-9 t
-item-rule-returns-9 t c = symbol-item _ _ _ (c .before .before .enum-told9 .given .1) (c .before .number-in4 .ensures) (c .tag-rule3 .ensures)
+item-rule-returns-8 t c = symbol-item _ _ (c .before .before .enum-told8 .given .1) (c .before .number-in2 .ensures) (c .tag-rule3 .ensures)
 
 abbrev sweep-calls : ℕ → sweep-lts.Claims
 sweep-calls t = (
@@ -152,13 +142,13 @@ sweep-calls t = (
 )
 
 abbrev sweep-Inv-loop : sweep-lts.InvT-loop
-sweep-Inv-loop s sort i parents wanted rule₀ place₀ rule place =
-    Gathered (least (itemRule parents i sort)) (insides (typeOf sort)) s (place .at) rule
+sweep-Inv-loop s sort n wanted rule₀ place₀ rule place =
+    Gathered (least (itemRule n sort)) (insides (typeOf sort)) s (place .at) rule
 
 abbrev sweep-μ-loop : sweep-lts.MeasureT-loop
-sweep-μ-loop s sort i parents wanted rule₀ place₀ rule place = length s - place .at
+sweep-μ-loop s sort n wanted rule₀ place₀ rule place = length s - place .at
 
-abbrev sweep-need : (sweep-lts.Claims → In 2 sweep-kinds.ps → Out 2 sweep-kinds.ps sweep-kinds.r → sweep-lts.InvT-loop → sweep-lts.MeasureT-loop → Type 0)
+abbrev sweep-need : (sweep-lts.Claims → In 1 sweep-kinds.ps → Out 1 sweep-kinds.ps sweep-kinds.r → sweep-lts.InvT-loop → sweep-lts.MeasureT-loop → Type 0)
     → ℕ → Type 0
 sweep-need N t = N (sweep-calls t) (sweep-at t) sweep.Post sweep-Inv-loop sweep-μ-loop
 
@@ -182,7 +172,7 @@ sweep-part-item-rule-end t c = omega (arith, step t (c .before .before))
 sweep-item-rule-requires : (t : ℕ) → sweep-need sweep-lts.Need-item-rule-requires t
 sweep-item-rule-requires t c κs =
     let turn = c .before .before .before in
-    (simp (length-take, length-drop) (omega (arith, turn .before .before .before .before .before .before .before .pre .0, step t turn)), tt)
+    (simp (length-take, length-drop) (omega (arith, turn .before .before .before .before .before .before .pre .0, step t turn)), tt)
 
 sweep-loop-less : (t : ℕ) → sweep-need sweep-lts.Need-loop-less t
 sweep-loop-less t c = omega (arith, step t (c .before .before .before .before .before))
@@ -234,13 +224,7 @@ pub +item-rule+sweep-spec : {M : Type 1} → statement M
     (λ c. search needs)
     (λ c κs. search needs)
     (λ c κs. search needs)
-    (λ c. search needs)
-    (λ c κs. search needs)
-    (λ c κs. search needs)
-    (λ c κs. search needs)
-    (λ c κs. search needs)
     (item-rule-sweep-requires-5 t)
-    (λ c κs. search needs)
     (λ c κs. search needs)
     (λ c. search needs)
     (λ c κs. search needs)
@@ -255,8 +239,7 @@ pub +item-rule+sweep-spec : {M : Type 1} → statement M
     (item-rule-returns-5 t)
     (item-rule-returns-6 t)
     (item-rule-returns-7 t)
-    (item-rule-returns-8 t)
-    (item-rule-returns-9 t))
+    (item-rule-returns-8 t))
     λ t. sweep-lts.spec (sweep-calls t)
     (sweep-at t)
     sweep.Post

@@ -14,11 +14,11 @@ use Rattle.lvs_rules.proofs.lowest_fault.Statement.{statement}
 use Rattle.lvs_rules.proofs.lowest_fault.Tie as tie
 
 abbrev Inv-loop : tie.InvT-loop
-Inv-loop model parents fault₀ i₀ place₀ fault i place =
-    Gathered (faults (λ i b. nodeRule parents i (nodeOf b))) (insides type.Node) model (place .at) (i, fault)
+Inv-loop model start parents fault₀ i₀ place₀ fault i place =
+    Gathered (faults (λ i b. nodeRule start parents i (nodeOf b))) (insides type.Node) model (place .at) (i, fault)
 
 abbrev μ-loop : tie.MeasureT-loop
-μ-loop model parents fault₀ i₀ place₀ fault i place = length model - place .at
+μ-loop model start parents fault₀ i₀ place₀ fault i place = length model - place .at
 
 -- at an element that was found
 module _ (c : tie.After-typ Inv-loop μ-loop) where
@@ -42,7 +42,7 @@ add-i c =
     let node = c .before .before .before in
     let turn = node .before .before in
     let loop = turn .before .before .before in
-    omega (arith, loop .before .before .before .pre, node-index _ (loop .loop .inv) (step turn) (node .if1 .taken))
+    omega (arith, loop .before .before .before .pre .0, node-index _ (loop .loop .inv) (step turn) (node .if1 .taken))
 
 loop-less : tie.Need-loop-less Inv-loop μ-loop
 loop-less c = omega (arith, step (c .before .before .before .before .before))

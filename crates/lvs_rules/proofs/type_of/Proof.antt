@@ -37,15 +37,10 @@ returns-8 : tie.Need-returns-8
 unfolding typeOf
 returns-8 c = ap typeOf (sym (c .enum-told8 .given .1))
 
-returns-9 : tie.Need-returns-9
-unfolding typeOf
-returns-9 c = ap typeOf (sym (c .enum-told9 .given .1))
-
 pub type-of-spec : {M : Type 1} → statement M
 type-of-spec =
     tie.close
     (tie.spec
-    (λ c. search needs)
     (λ c. search needs)
     (λ c. search needs)
     (λ c. search needs)
@@ -61,5 +56,4 @@ type-of-spec =
     returns-5
     returns-6
     returns-7
-    returns-8
-    returns-9)
+    returns-8)

@@ -1,9 +1,9 @@
--- `lvs_rules::numbers::destination_rule` meets its contract. Assumes nothing.
+-- `lvs_rules::destinations::destination_rule` meets its contract. Assumes nothing.
 use native.Mathlib.Omega.{arith}
 use borrow.Author.Needs.{needs}
 use Rattle.lvs_rules.proofs.ParentWords.{names-none, other-parent, its-parent}
-use Rattle.lvs_rules.proofs.numbers.destination_rule.Statement.{statement}
-use Rattle.lvs_rules.proofs.numbers.destination_rule.Tie as tie
+use Rattle.lvs_rules.proofs.destinations.destination_rule.Statement.{statement}
+use Rattle.lvs_rules.proofs.destinations.destination_rule.Tie as tie
 
 returns : tie.Need-returns
 returns c = names-none _ _ _ (omega arith)

@@ -1,18 +1,17 @@
--- `lvs_rules::numbers::signer_rule` meets its contract. Assumes nothing.
+-- `lvs_rules::numbers::named_rule` meets its contract. Assumes nothing.
 use native.Mathlib.Omega.{arith}
 use Rattle.lvs_rules.proofs.Least.{reached, not-reached}
-use lib.ListN.{length}
-use Rattle.lvs_rules.specs.Lowest.{signerRule, unnamed}
-use Rattle.lvs_rules.proofs.numbers.signer_rule.Statement.{statement}
-use Rattle.lvs_rules.proofs.numbers.signer_rule.Tie as tie
+use Rattle.lvs_rules.specs.Lowest.{namedRule}
+use Rattle.lvs_rules.proofs.numbers.named_rule.Statement.{statement}
+use Rattle.lvs_rules.proofs.numbers.named_rule.Tie as tie
 
 returns : tie.Need-returns
-unfolding signerRule unnamed
-returns c = reached 9 (length (c .before .args .parents .now)) (c .before .args .signer) (omega arith)
+unfolding namedRule
+returns c = reached (c .before .args .rule) (c .before .args .n) (c .before .args .index) (omega arith)
 
 returns-2 : tie.Need-returns-2
-unfolding signerRule unnamed
-returns-2 c = not-reached 9 (length (c .before .args .parents .now)) (c .before .args .signer) (omega arith)
+unfolding namedRule
+returns-2 c = not-reached (c .before .args .rule) (c .before .args .n) (c .before .args .index) (omega arith)
 
-pub signer-rule-spec : {M : Type 1} → statement M
-signer-rule-spec = tie.close (tie.spec returns returns-2)
+pub named-rule-spec : {M : Type 1} → statement M
+named-rule-spec = tie.close (tie.spec returns returns-2)
