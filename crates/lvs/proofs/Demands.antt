@@ -27,7 +27,8 @@ use Rattle.lvs_spec.specs.Grammar.{meaning, optional, critical}
 use Rattle.lvs_spec.specs.WellFormed.{thisVersion, wellFormed}
 use Rattle.lvs_spec.specs.Model.{Model, modelOf}
 use Rattle.lvs_spec.specs.Verdict.{describes, reading, verdict}
-use Rattle.lvs_spec.specs.Walk.{packetOrigin, Binding, bound}
+use Rattle.lvs_spec.specs.Tree.{IsTree}
+use Rattle.lvs_spec.specs.Walk.{packetOrigin, Binding, Bindings, bound, Match, begin, matches}
 use Rattle.lvs_spec.specs.Answers.{tagWords, Outcome, matchRefused, matchOutcome, Buffers, SignOutcome, signRefused, signOutcome, followAnswer}
 use Rattle.lvs_spec.specs.Certificates.{suggestAnswer}
 use Rattle.lvs_spec.specs.Gaps.{bare, Inserted, gapPlace, Stands}
@@ -36,6 +37,7 @@ use Rattle.lvs_spec.specs.Demands.{wordsAt, StandsIn, Whose, FirstBound, ShortW
 use Rattle.lvs_spec.specs.Demands.{MalformedAt, FaultWithin, joined, FirstAllowed, NoCertificate, Alike, AllRefuse, unnamed, counted}
 use Rattle.lvs_spec.proofs.Refusals.{verdict-number, refused-malformed}
 use Rattle.lvs_spec.proofs.Reading.{malformed-refused, fault-within}
+use Rattle.lvs_spec.proofs.Tree.{accepted-tree, matched-once}
 use Rattle.lvs_spec.proofs.Matching.{MatchedBy, match-matched, match-some, match-none, match-number}
 use Rattle.lvs_spec.proofs.Signing.{SignedBy, sign-allowed, sign-some, sign-none, sign-number, sign-short-words, sign-short-path}
 use Rattle.lvs_spec.proofs.Following.{follow-some, follow-none, follow-number, accepted-allowed, some-path, path-accepted}
@@ -175,6 +177,17 @@ malformed-exactly {model} {r} c = (
 -- there is such a place, and it lies within the model, exactly when the model is not well formed
 pub place-exactly : (model : List ℕ) → (wellFormed model ≡ false) ↔ FaultWithin model
 place-exactly = fault-within
+
+-- the Nodes of an accepted model that edges lead to from the start form a tree: each is reached by one path alone, so that none is its own
+-- descendant and no two edges lead to one
+pub accepted-is-tree : {model : List ℕ} {n : ℕ} → Judged model (verdicts.Accepted n) → IsTree (modelOf model)
+accepted-is-tree {model} c = accepted-tree model (sym (judged-is c))
+
+-- so a name leads to a Node in one way at most, whatever is bound when its walk begins
+pub one-match-a-node : {model : List ℕ} {n : ℕ} → Judged model (verdicts.Accepted n) → (row : List Binding) (s : Bindings) {x y : Match}
+    → List·Memᴰ x (matches (modelOf model) row (begin (modelOf model) s)) → List·Memᴰ y (matches (modelOf model) row (begin (modelOf model) s))
+    → x .node ≡ y .node → x ≡ y
+one-match-a-node {model} c row s = matched-once (modelOf model) row s (accepted-is-tree c)
 
 -- ---- the match call
 

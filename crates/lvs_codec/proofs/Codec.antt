@@ -118,7 +118,7 @@ module _ {ns ts before after : List ℕ} where
   pub write-keeps : {number at : ℕ} → Wrote ns ts before (writings.Refused number at) after → after ≡ before
   write-keeps c = sym (left c) ∙ calls.write-keeps ns ts before (answered c)
 
-  -- its number is 30, one of 1, 2 and 4 to 12, or 31
+  -- its number is 30, one of 1, 2 and 4 to 14, or 31
   pub write-refusals : {number at : ℕ} → Wrote ns ts before (writings.Refused number at) after → List·Memᴰ number writeRefusals
   write-refusals c = calls.write-number ns ts before (answered c)
 

@@ -9,12 +9,15 @@ use borrow.Author.Tests.{leb-true, leb-false, eqb-true, eqb-false, eq-eqb, not-f
 use lib.Dec.{leb, eqb}
 use lib.ListN.{length, getD, getElem?, List·getD-eq-default}
 use Rattle.tlv.specs.Lists.{bind, any, is, isSome, member, twice}
-use Rattle.lvs_spec.specs.Model.{Model, Node, edges, noNode, nodeAt, modelOf}
+use Rattle.lvs_spec.specs.Model.{Model, Node, Edge, destination, edges, noNode, nodeAt, modelOf}
 use Rattle.lvs_spec.specs.Verdict.{Verdict, Test, destinations, namesNone, notParent, startHasParent, twins, firstFault, fault, rules, judge, verdict}
+use Rattle.lvs_spec.specs.Walk.{Binding, Bindings, bindingsAfter, Match, begin, cross, matches, follow}
 use Rattle.lvs_spec.specs.Answers.{usable, usableModel}
 use Rattle.lvs_spec.specs.Tree.{arrive, Reaches, Leads, IsTree}
-use Rattle.lvs_spec.proofs.Lists.{clash, bind-from, getElem-in, getElem-lt, getElem-getD}
+use Rattle.lvs_spec.proofs.Lists.{clash, bind-from, getElem-in, getElem-lt, getElem-getD, getElem-map}
 use Rattle.lvs_spec.proofs.Grammar.{neither}
+use Rattle.lvs_spec.proofs.Trace.{cross-path, Keeps, walk-keeps}
+use Rattle.lvs_spec.proofs.Follow.{way-follow, own-way}
 use Rattle.lvs_spec.proofs.Rules.{judge-kept}
 use Rattle.lvs_spec.proofs.Reading.{accepted-judged}
 use Rattle.lvs_spec.proofs.Usable.{usable-accepted, usable-model}
@@ -228,3 +231,39 @@ accepted-tree b h = judged-tree (modelOf b) (accepted-judged b h)
 -- and so each model that a call goes on with
 pub usable-tree : (b : List ℕ) {m : Model} → usableModel b ≡ usable m → IsTree m
 usable-tree b h = let (n, e) = usable-accepted b h in subst IsTree (usable-model b h) (accepted-tree b e)
+
+-- ---- the walk in it
+
+-- a crossing leads to its edge's destination
+cross-node : (m : Model) (c : Binding) (x : Match) (i : ℕ) (e : Edge) {y : Match} → cross m c x i e ≡ some y → y .node ≡ destination e
+unfolding cross
+cross-node m c x i e {y} h =
+    let (s, _, k) = bind-from (bindingsAfter (m .patternCount) (x .bindings) c e) _ h in
+    ap (λ (z : Match). z .node) (sym (Option·some-injective _ y k))
+
+module _ (m : Model) (cs : List Binding) (s : Bindings) where
+  -- a match's path reaches its Node
+  path-reaches : {x : Match} → List·Memᴰ x (matches m cs (begin m s)) → Reaches m (x .path) (x .node)
+  unfolding begin arrive destinations
+  path-reaches = walk-keeps m (λ x. Reaches m (x .path) (x .node)) cs step (begin m s) refl
+    where
+      step : Keeps m cs (λ x. Reaches m (x .path) (x .node))
+      step c _ x i e y there k h =
+          let l : Leads m (x .node) i (destination e) = getElem-map destination (edges (nodeAt m (x .node))) i there in
+          let p = cross-path m c x i e k in
+          let v = cross-node m c x i e k in
+          rw (p, v) (arrive-on m (m .start) (x .node) (x .path) (i ∷ []) h (ap (λ (o : Option ℕ). bind o (λ d. arrive m d [])) l))
+
+  -- and is its own
+  path-tells : {x y : Match} → List·Memᴰ x (matches m cs (begin m s)) → List·Memᴰ y (matches m cs (begin m s)) → x .path ≡ y .path → x ≡ y
+  unfolding begin
+  path-tells {x} {y} i j e =
+      let a = way-follow m (own-way m cs (begin m s) refl i) in
+      let b = way-follow m (own-way m cs (begin m s) refl j) in
+      Option·some-injective x y (sym a ∙ ap (λ p. follow m cs p (begin m s)) e ∙ b)
+
+  -- so a name leads to a Node in one way at most
+  pub matched-once : IsTree m → {x y : Match} → List·Memᴰ x (matches m cs (begin m s)) → List·Memᴰ y (matches m cs (begin m s)) → x .node ≡ y .node
+      → x ≡ y
+  matched-once t {x} {y} i j e =
+      path-tells i j (t .once (x .path) (y .path) (y .node) (subst (Reaches m (x .path)) e (path-reaches i)) (path-reaches j))
