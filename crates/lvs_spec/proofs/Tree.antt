@@ -12,7 +12,6 @@ use Rattle.tlv.specs.Lists.{bind, any, is, isSome, member, twice}
 use Rattle.lvs_spec.specs.Model.{Model, Node, Edge, destination, edges, noNode, nodeAt, modelOf}
 use Rattle.lvs_spec.specs.Verdict.{Verdict, Test, destinations, namesNone, notParent, startHasParent, twins, firstFault, fault, rules, judge, verdict}
 use Rattle.lvs_spec.specs.Walk.{Binding, Bindings, bindingsAfter, Match, begin, cross, matches, follow}
-use Rattle.lvs_spec.specs.Answers.{usable, usableModel}
 use Rattle.lvs_spec.specs.Tree.{arrive, Reaches, Leads, IsTree}
 use Rattle.lvs_spec.proofs.Lists.{clash, bind-from, getElem-in, getElem-lt, getElem-getD, getElem-map}
 use Rattle.lvs_spec.proofs.Grammar.{neither}
@@ -20,7 +19,6 @@ use Rattle.lvs_spec.proofs.Trace.{cross-path, Keeps, walk-keeps}
 use Rattle.lvs_spec.proofs.Follow.{way-follow, own-way}
 use Rattle.lvs_spec.proofs.Rules.{judge-kept}
 use Rattle.lvs_spec.proofs.Reading.{accepted-judged}
-use Rattle.lvs_spec.proofs.Usable.{usable-accepted, usable-model}
 
 -- ---- what the rules say of edges
 
@@ -88,7 +86,7 @@ module _ (m : Model) where
   unfolding nodeAt
   not-at-fault f h v l = let z : 0 + v ≡ v = omega arith in rw z at (no-fault f 0 (m .nodes) h v l)
 
-  -- a test of destinations passes none of an edge's
+  -- where a test of destinations finds no fault, no edge's destination is at fault
   led-past : (f : ℕ → ℕ → Bool) → firstFault (λ i n. any (f i) (destinations n)) 0 (m .nodes) ≡ none → (v i d : ℕ) → Leads m v i d → f v d ≡ false
   led-past f h v i d l =
       any-false (f v) {xs = destinations (nodeAt m v)} (not-at-fault (λ i n. any (f i) (destinations n)) h v (leads-inside m v i d l)) (getElem-in _ i l)
@@ -144,7 +142,7 @@ snoc-induction P base step p = go p [] base
     go [] p h = rw append-nil h
     go (i ∷ q) p h = subst P (append-assoc p (i ∷ []) q) (go q (p ++ (i ∷ [])) (step p i h))
 
-pub arrive-append : (m : Model) (v : ℕ) (p q : List ℕ) → arrive m v (p ++ q) ≡ bind (arrive m v p) (λ u. arrive m u q)
+arrive-append : (m : Model) (v : ℕ) (p q : List ℕ) → arrive m v (p ++ q) ≡ bind (arrive m v p) (λ u. arrive m u q)
 unfolding arrive
 arrive-append m v [] q = refl
 arrive-append m v (i ∷ p) q = go (getElem? (destinations (nodeAt m v)) i) (λ d. arrive-append m d p q)
@@ -227,10 +225,6 @@ judged-tree m h = lawful-tree (lawful m h)
 -- the model that accepted bytes describe
 pub accepted-tree : (b : List ℕ) {n : ℕ} → verdict b ≡ Verdict.accepted n → IsTree (modelOf b)
 accepted-tree b h = judged-tree (modelOf b) (accepted-judged b h)
-
--- and so each model that a call goes on with
-pub usable-tree : (b : List ℕ) {m : Model} → usableModel b ≡ usable m → IsTree m
-usable-tree b h = let (n, e) = usable-accepted b h in subst IsTree (usable-model b h) (accepted-tree b e)
 
 -- ---- the walk in it
 
