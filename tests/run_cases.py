@@ -18,7 +18,7 @@ ROOT = pathlib.Path(__file__).resolve().parent.parent
 CASES = ROOT / "tests/cases"
 TABLES = (
     "bench", "limits", "refusals", "gaps", "places", "document_003", "walks", "writing", "certificates", "temporary", "components", "paths",
-    "origins",
+    "origins", "trees",
 )  # fmt: skip
 sys.path.insert(0, str(CASES))
 sys.dont_write_bytecode = True

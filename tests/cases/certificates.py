@@ -8,7 +8,7 @@ from bench import A, B, EMPTY, SLASH_A, SLASH_B
 from build import *
 from document_003 import ADMIN_KEY, AUTHOR_KEY, QUICK, TUTORIAL
 from gaps import FULL, PACKET, put_everywhere
-from limits import LOOP
+from limits import CHAIN
 from refusals import refused, with_faults
 
 # at these no element can be cut off, whatever is behind them in a list of the driver
@@ -238,11 +238,11 @@ def limits():
     def a_name(count):
         return name(*["a"] * count)
 
-    yield "32 components", suggest(LOOP, a_name(1), a_name(32)), certificate(0)
-    yield "32 components, the last of 64", suggest(LOOP, a_name(1), *many(63), a_name(32)), certificate(63)
-    yield "33 components", suggest(LOOP, a_name(1), *many(1), a_name(33)), bad_entry(1)
-    yield "33 components behind 32", suggest(LOOP, a_name(1), a_name(32), a_name(33)), bad_entry(1)
-    yield "no component", suggest(LOOP, a_name(1), EMPTY), certificate(0)
+    yield "32 components", suggest(CHAIN, a_name(1), a_name(32)), certificate(0)
+    yield "32 components, the last of 64", suggest(CHAIN, a_name(1), *many(63), a_name(32)), certificate(63)
+    yield "33 components", suggest(CHAIN, a_name(1), *many(1), a_name(33)), bad_entry(1)
+    yield "33 components behind 32", suggest(CHAIN, a_name(1), a_name(32), a_name(33)), bad_entry(1)
+    yield "no component", suggest(CHAIN, a_name(1), EMPTY), certificate(0)
 
 
 # what comes before what
@@ -274,10 +274,10 @@ BAD_NAMES = (
 
 def order():
     """The model, then the packet name, then 33, then 32."""
-    for rule in range(1, 13):
+    for rule in range(1, 15):
         of = with_faults(**{f"r{rule}": 3})
         answer = refused(rule, 3, of)
-        for what, data in bad_lists() if rule in (2, 9, 12) else [("one that may sign", SLASH_A)]:
+        for what, data in bad_lists() if rule in (2, 9, 12, 13, 14) else [("one that may sign", SLASH_A)]:
             yield f"model refused with {rule}, {what}", suggest(of, SLASH_A, data), answer
             yield f"model refused with {rule}, a malformed packet name, {what}", suggest(of, b"\x07", data), answer
     yield "no model, no packet name, no list", suggest(b"", b""), "refused 2 0"

@@ -23,6 +23,8 @@ def models():
         ("a cut model", B[:-1], "model refused 2 at 25\n"),
         ("another parent", B_PARENT_1, "model refused 11 at 0\n"),
         ("a signer that is no Node", bad_signer, "model refused 9 at 1\n"),
+        ("a start with a Parent", model(node(0), node(1), node(2, parent(0)), start=2), "model refused 13 at 2\n"),
+        ("two edges to one Node", model(node(0), node(1, value_edge(2, "a"), pattern_edge(2, 1)), node(2, parent(1))), "model refused 14 at 1\n"),
         ("no file", None, "model refused 2 at 0\n"),
         ("an empty file", b"", "model refused 2 at 0\n"),
         ("32,769 bytes", padded(B, 32769), "model refused 1 at 0\n"),
@@ -34,6 +36,10 @@ def models():
         yield what, of, GOOD, f"model refused 2 at {of.place}\n"
     yield "32,768 bytes", padded(B, 32768), GOOD, HEAD + FIRST
     yield "one Node", A, request(EMPTY, EMPTY), "model 1 nodes\n1 not allowed\n"
+    # Nodes 2 and 3 are each other's Parents, and no name leads to them
+    two = [node(2, parent(3), value_edge(3, "a")), node(3, parent(2), value_edge(2, "a"))]
+    of = model(node(0, value_edge(1, "a")), node(1, parent(0), signer(1)), *two)
+    yield "mutual parents", of, GOOD + request(path("/a/a"), path("/a/a")), "model 4 nodes\n1 allowed 1 1\n2 not allowed\n"
 
 
 def answers():

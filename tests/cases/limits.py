@@ -56,11 +56,17 @@ def tags():
             yield from all_three(f"Tag {n} in {where}", of(n), "refused 5 0")
 
 
-# Nodes 0 and 1 are each other's parent and child, so a name of any length has a match.
-LOOP = model(
-    node(0, parent(1), value_edge(1, "a"), signer(0), signer(1)),
-    node(1, parent(0), value_edge(0, "a"), signer(0), signer(1)),
-)
+def chain(count):
+    """So many Nodes, each with an edge for a to the next. Each lists the first and the last two."""
+
+    def one(i):
+        up, down = [parent(i - 1)] if i else [], [value_edge(i + 1, "a")] if i + 1 < count else []
+        return node(i, *up, *down, *map(signer, (0, count - 2, count - 1)))
+
+    return model(*map(one, range(count)))
+
+
+CHAIN = chain(34)  # 33 components lead to its last Node, and a name may not have so many
 
 
 def components():
@@ -68,16 +74,22 @@ def components():
         return name(*["a"] * count)
 
     room = list(range(300, 370))  # room for two names of 33 components, and four more
-    yield "32 components", match(LOOP, a_name(32), OLD), matched(0)
-    yield "31 components", match(LOOP, a_name(31), OLD), matched(1)
-    yield "33 components", match(LOOP, a_name(33), OLD), kept("refused 23 0")
-    yield "32 and 32 components", sign(LOOP, a_name(32), a_name(32), room), allowed(0, 0, *[0] * 64, path_words=room)
-    yield "33 components in the packet name", sign(LOOP, a_name(33), a_name(32), room), both_kept("refused 23 0", room)
-    yield "33 components in the key name", sign(LOOP, a_name(32), a_name(33), room), both_kept("refused 26 0", room)
-    yield "33 in both", sign(LOOP, a_name(33), a_name(33), room), both_kept("refused 23 0", room)
+    yield "32 components", match(CHAIN, a_name(32), OLD), matched(32)
+    yield "31 components", match(CHAIN, a_name(31), OLD), matched(31)
+    yield "33 components", match(CHAIN, a_name(33), OLD), kept("refused 23 0")
+    yield "32 and 32 components", sign(CHAIN, a_name(32), a_name(32), room), allowed(32, 32, *[0] * 64, path_words=room)
+    yield "32 components and none", sign(CHAIN, a_name(32), a_name(0), room), allowed(32, 0, *[0] * 32, path_words=room)
+    yield "no component and 32", sign(CHAIN, a_name(0), a_name(32), room), allowed(0, 32, *[0] * 32, path_words=room)
+    yield "33 components in the packet name", sign(CHAIN, a_name(33), a_name(32), room), both_kept("refused 23 0", room)
+    yield "33 components in the key name", sign(CHAIN, a_name(32), a_name(33), room), both_kept("refused 26 0", room)
+    yield "33 in both", sign(CHAIN, a_name(33), a_name(33), room), both_kept("refused 23 0", room)
     # malformed is tested before the number of components
-    yield "33 components and a broken one", match(LOOP, name(*["a"] * 33, b"\x08"), OLD), kept("refused 22 0")
-    yield "the same in the key name", sign(LOOP, a_name(1), name(*["a"] * 33, b"\x08")), both_kept("refused 25 0")
+    yield "33 components and a broken one", match(CHAIN, name(*["a"] * 33, b"\x08"), OLD), kept("refused 22 0")
+    yield "the same in the key name", sign(CHAIN, a_name(1), name(*["a"] * 33, b"\x08")), both_kept("refused 25 0")
+    # one Node fewer: the last of 32 components has no edge
+    yield "32 components, 32 Nodes", match(chain(32), a_name(32), OLD), kept("no match")
+    yield "256 Nodes in a chain", verdict(chain(256)), "accepted 256"
+    yield "256 Nodes in a chain, 32 components", match(chain(256), a_name(32), OLD), matched(32)
 
 
 def words():

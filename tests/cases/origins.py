@@ -10,7 +10,7 @@ from typing import NamedTuple
 from bench import A, B, EMPTY, SLASH_A, SLASH_B
 from build import *
 from gaps import CRITICAL, OPTIONAL, put_everywhere
-from paths import LADDER, a_name, count, model_faults, name_faults, rungs
+from paths import LADDER, a_name, count, full_tree, model_faults, name_faults, reached, rungs
 from temporary import with_count
 
 
@@ -302,10 +302,10 @@ def empty_names():
     yield "an empty key name, temporary Tags", chains([("a", 2), ("b", 2), ("c", 1)], [], 1)
 
 
-# one Node with an edge for each Tag, which leads back to it
+# an edge for each Tag at the start, and at each Node behind it
 
 
-def loops():
+def all_tags():
     """The first path takes the lowest Tag that it can: the i-th component that is new, in the packet and then in the key, is Tag i's.
 
     With a Tag fewer than there are different components, no path ends; with a temporary Tag behind the named one, that takes the others.
@@ -313,8 +313,7 @@ def loops():
     some = {"a": component(""), "b": component("bb"), "c": component("c" * 253)}
     texts = [letters for n in range(3) for letters in product("abc", repeat=n)]
     for tags, named in (3, 3), (2, 2), (2, 1):
-        edges = [pattern_edge(0, n) for n in range(1, tags + 1)]
-        of = model(node(0, parent(0), *edges, signer(0)), patterns=named)
+        of = full_tree(lambda to: [pattern_edge(to + n, 1 + n) for n in range(tags)], 2, range(1 + tags + tags**2), named)
         for packet, key in product(texts, repeat=2):
             different = list(dict.fromkeys(packet + key))
             names = [name(*(some[c] for c in letters)) for letters in (packet, key)]
@@ -322,7 +321,9 @@ def loops():
             if len(different) <= tags or named < tags:
                 crossed = [min(1 + different.index(c), tags) for c in packet + key]
                 bound = pair_bindings(names[0], crossed[: len(packet)], names[1], crossed[len(packet) :], named)
-                pair = Pair(of, *names, (0, 0, *(n - 1 for n in crossed)), bound)
+                words = [n - 1 for n in crossed]
+                ends = reached(words[: len(packet)], tags), reached(words[len(packet) :], tags)
+                pair = Pair(of, *names, (*ends, *words), bound)
             yield f"{tags} Tags, {named} named, {''.join(packet) or 'nothing'} by {''.join(key) or 'nothing'}", pair
 
 
@@ -532,7 +533,7 @@ def before_34():
         ("B, /a by /a", B, SLASH_A, SLASH_A, (1, 1, 0, 0)),
         ("B, /a by /b", B, SLASH_A, SLASH_B, None),
         ("A, empty names", A, EMPTY, EMPTY, None),
-        ("a loop, empty names", model(node(0, signer(0))), EMPTY, EMPTY, (0, 0)),
+        ("a start that lists itself, empty names", model(node(0, signer(0))), EMPTY, EMPTY, (0, 0)),
         ("32 and 32 components", LADDER, a_name(32), a_name(32), (32, 32, *rungs(32, 32))),
         ("32 and 31 components", LADDER, a_name(32), a_name(31), None),
     ):
@@ -586,7 +587,7 @@ def optional():
 
 
 PAIRS = (
-    one_tag, component_headers, headers_before, assignments, temporary, many_tags, starts, first_steps, equal_names, empty_names, loops,
+    one_tag, component_headers, headers_before, assignments, temporary, many_tags, starts, first_steps, equal_names, empty_names, all_tags,
     branches, unequal,
 )  # fmt: skip
 

@@ -61,13 +61,20 @@ def rung(i):
 
 
 def ladder():
-    """Names of up to 32 components a: each Node has one edge for it, the last, and a few for b. All list Nodes 0, 1 and 32."""
-    nodes = []
+    """Names of up to 32 components a: each Node has one edge for it, the last, and a few for b, to Nodes of their own behind the others.
+
+    The first 33 list Nodes 0, 1 and 32.
+    """
+    nodes, sides = [], []
     for i in range(33):
         up = [parent(i - 1)] if i else []
-        down = [value_edge(i + 1, "b")] * rung(i) + [value_edge(i + 1, "a")] if i < 32 else []
+        down = []
+        if i < 32:
+            aside = range(33 + len(sides), 33 + len(sides) + rung(i))
+            sides += (node(j, parent(i)) for j in aside)
+            down = [value_edge(j, "b") for j in aside] + [value_edge(i + 1, "a")]
         nodes.append(node(i, *up, *down, signer(0), signer(1), signer(32)))
-    return model(*nodes)
+    return model(*nodes, *sides)
 
 
 LADDER = ladder()
@@ -147,7 +154,7 @@ def name_faults():
 
 def model_faults():
     """(what, model, the refusal)."""
-    for rule in range(1, 13):
+    for rule in range(1, 15):
         of = with_faults(**{f"r{rule}": 3})
         yield f"rule {rule}", of, refused(rule, 3, of)
     yield "no bytes", b"", "refused 2 0"
@@ -215,36 +222,42 @@ def all_words():
 
 
 def wide():
-    """Ordinals above 255: 290 ValueEdges and 10 PatternEdges from Node 0 to Node 1."""
+    """As many edges as a Node can have, since each leads to another: 245 ValueEdges and 10 PatternEdges."""
+    each = [component(bytes([i])) for i in range(256)]
 
     def of_edge(i):
-        return name(f"{i:03}")
+        return name(each[i])
 
-    edges = [value_edge(1, f"{i:03}") for i in range(290)] + [pattern_edge(1, 1, must_be(f"{i}")) for i in range(290, 300)]
-    of = model(node(0, *edges), node(1, parent(0), signer(1)))
-    for i in (0, 1, 127, 128, 254, 255, 256, 257, 289, 290, 299):
-        j = 299 - i
-        yield f"edge {i} by edge {j}", sign(of, of_edge(i), of_edge(j)), allowed(1, 1, i, j)
+    edges = [value_edge(i + 1, each[i]) for i in range(245)] + [pattern_edge(i + 1, 1, must_be(each[i])) for i in range(245, 255)]
+    several = (0, 1, 2, 127, 128, 129, 243, 244, 245, 246, 253, 254)
+    by = {i: {1, 255 - i} for i in several} | {0: {i + 1 for i in several}}  # edge i's Node lists these
+    of = model(node(0, *edges), *(node(i + 1, parent(0), *map(signer, sorted(by.get(i, ())))) for i in range(255)))
+    for i in several:
+        j = 254 - i
+        yield f"edge {i} by edge {j}", sign(of, of_edge(i), of_edge(j)), allowed(i + 1, j + 1, i, j)
         yield from followed(f"edge {i} by edge {j}", of, of_edge(i), of_edge(j), [i, j], True)
-        yield from followed(f"edge {i} by edge {j}", of, of_edge(i), of_edge(j), [j, i], False)
+        yield from followed(f"edge {i} by edge {j}", of, of_edge(i), of_edge(j), [j, i], i == j)
         # other words with the same low byte, or with the bytes exchanged
-        for other in sorted({i ^ 256, i + 65536 - 512, i >> 8 | (i & 255) << 8, 300, 65535} - {i}):
+        for other in sorted({i + 256, i + 65536 - 512, i << 8, 255, 65535} - {i}):
             yield from followed(f"edge {i}, and edge 0", of, of_edge(i), of_edge(0), [other, 0], False)
             yield from followed(f"edge 0, and edge {i}", of, of_edge(0), of_edge(i), [0, other], False)
-    yield "no edge", sign(of, of_edge(300), of_edge(0)), NOT_ALLOWED
-    yield from none_accepted("no edge", of, of_edge(300), of_edge(0), ([300, 0], [299, 0], [44, 0]))
+    yield "no edge", sign(of, of_edge(255), of_edge(0)), NOT_ALLOWED
+    yield from none_accepted("no edge", of, of_edge(255), of_edge(0), ([255, 0], [254, 0], [256, 0]))
 
 
 def widest():
-    """2,500 equal ValueEdges for a component of no bytes, one for a, and a PatternEdge for any."""
-    edges = [value_edge(1, "")] * 2500 + [value_edge(1, "a"), pattern_edge(1, 1)]
-    of = model(node(0, *edges), node(1, parent(0), signer(1)))
-    for packet, key, words in ("", "", (0, 0)), ("a", "a", (2500, 2500)), ("a", "b", (2500, 2501)), ("b", "", (2501, 0)), ("", "a", (0, 2500)):
-        yield f"{packet!r} by {key!r}", sign(of, name(packet), name(key)), allowed(1, 1, *words)
+    """253 equal ValueEdges for a component of no bytes, one for a, and a PatternEdge for any: each to another Node."""
+    edges = [value_edge(i, "") for i in range(1, 254)] + [value_edge(254, "a"), pattern_edge(255, 1)]
+    # each Node is listed by the last, and lists the first and the last two
+    ends = [signer(i) for i in (1, 254, 255)]
+    of = model(node(0, *edges), *(node(i, parent(0), *ends) for i in range(1, 255)), node(255, parent(0), *map(signer, range(1, 256))))
+    for packet, key, words in ("", "", (0, 0)), ("a", "a", (253, 253)), ("a", "b", (253, 254)), ("b", "", (254, 0)), ("", "a", (0, 253)):
+        yield f"{packet!r} by {key!r}", sign(of, name(packet), name(key)), allowed(words[0] + 1, words[1] + 1, *words)
         yield from followed(f"{packet!r} by {key!r}", of, name(packet), name(key), words, True)
-    for word, good in (1, True), (255, True), (256, True), (2499, True), (2500, False), (2501, True), (2502, False), (65535, False):
-        yield from followed("no bytes by a", of, name(""), SLASH_A, [word, 2500], good)
-        yield from followed("a by no bytes", of, SLASH_A, name(""), [2501, word], good)
+    goods = (1, True), (127, True), (128, True), (252, True), (253, False), (254, True), (255, False), (256, False), (65535, False)
+    for word, good in goods:
+        yield from followed("no bytes by a", of, name(""), SLASH_A, [word, 253], good)
+        yield from followed("a by no bytes", of, SLASH_A, name(""), [254, word], good)
 
 
 def optional():
@@ -275,12 +288,13 @@ def optional():
 def other_elements():
     """RuleNames, a Parent and signers are no edges."""
     named = model(
-        node(0, rule_name("#a"), rule_name("#b"), value_edge(1, "v"), pattern_edge(1, 1, must_be("p")), signer(0), signer(1)),
-        node(1, parent(0), rule_name("#c"), value_edge(2, "v"), pattern_edge(2, 1), signer(0)),
-        node(2, parent(1), rule_name("#d"), rule_name("#e"), signer(1), signer(2)),
+        node(0, rule_name("#a"), rule_name("#b"), value_edge(1, "v"), pattern_edge(2, 1, must_be("p")), signer(0), signer(1)),
+        node(1, parent(0), rule_name("#c"), value_edge(3, "v"), pattern_edge(4, 1), signer(0)),
+        node(2, parent(0), rule_name("#c"), value_edge(5, "v"), pattern_edge(6, 1), signer(0), signer(1)),
+        *(node(i, parent((i - 1) // 2), rule_name("#d"), rule_name("#e"), signer(1), signer(5)) for i in (3, 4, 5, 6)),
     )
     vw, pv = path("/v/w"), path("/p/v")
-    yield "RuleNames, Parents and signers", sign(named, vw, pv), allowed(2, 2, 0, 1, 1, 0)
+    yield "RuleNames, Parents and signers", sign(named, vw, pv), allowed(4, 5, 0, 1, 1, 0)
     yield from followed("RuleNames, Parents and signers", named, vw, pv, [0, 1, 1, 0], True)
     yield from followed("RuleNames, Parents and signers", named, vw, pv, [2, 1, 3, 0], False)
 
@@ -357,28 +371,54 @@ def signers():
         yield from followed(f"signer {i} of 40, /p by /q", of, path("/p"), path("/q"), [0, 1], False)
 
 
-def twins():
-    """Edges that take the same component: the first is written, and each is accepted that leads to a signer."""
-    edges = value_edge(1, "a"), value_edge(1, "a"), value_edge(2, "a"), pattern_edge(1, 1), pattern_edge(1, 2, must_be("b"))
-    of = model(node(0, *edges), node(1, parent(0), signer(1)), node(2, parent(0)), patterns=2)
+def equal_edges():
+    """Edges that take the same component, to different Nodes: the first is written, and each is accepted that leads to a signer."""
+    edges = value_edge(1, "a"), value_edge(2, "a"), value_edge(3, "a"), pattern_edge(4, 1), pattern_edge(5, 2, must_be("b"))
+    good = [signer(i) for i in (1, 2, 4, 5)]
+    nodes = [node(i, parent(0), *(good if i != 3 else ())) for i in range(1, 6)]
+    of = model(node(0, *edges), *nodes, patterns=2)
     yield "equal edges", sign(of, SLASH_A, SLASH_A), allowed(1, 1, 0, 0)
     for words in product(range(6), repeat=2):
         yield from followed("equal edges", of, SLASH_A, SLASH_A, list(words), set(words) <= {0, 1, 3})
 
 
+def reached(words, edges):
+    """The Node of full_tree at the end of these edges."""
+    at = 0
+    for word in words:
+        at = edges * at + 1 + word
+    return at
+
+
+def full_tree(edges, depth, signers, patterns=0):
+    """Each Node has all edges down to this depth, so that every path leads to a Node of its own. All list the same signers.
+
+    `edges` makes them: the first leads to the Node that it is given, the next to the next.
+    """
+    size = len(edges(0))
+    inner = sum(size**i for i in range(depth))
+
+    def one(n):
+        up, down = [parent((n - 1) // size)] if n else [], edges(size * n + 1) if n < inner else []
+        return node(n, *up, *down, *map(signer, signers))
+
+    return model(*map(one, range(inner + size**depth)), patterns=patterns)
+
+
 def choices():
-    """Nodes 0, 1 and 2, with five edges from each to the next: a path is good where each edge takes its component. Node 2 lists Node 1."""
+    """Five edges at the start, and at each Node behind them: a path is good where each edge takes its component. Nodes 1 to 5 may sign all."""
     takes = "a", "b", "ab", "abc", ""
 
     def edges(to):
-        values = value_edge(to, "a"), value_edge(to, "b")
-        return *values, pattern_edge(to, 1, must_be("a", "b")), pattern_edge(to, 2), pattern_edge(to, 3, constraint())
+        values = value_edge(to, "a"), value_edge(to + 1, "b")
+        return *values, pattern_edge(to + 2, 1, must_be("a", "b")), pattern_edge(to + 3, 2), pattern_edge(to + 4, 3, constraint())
 
-    of = model(node(0, *edges(1)), node(1, parent(0), *edges(2)), node(2, parent(1), signer(1)))
+    of = full_tree(edges, 2, range(1, 6))
     for packet, key, most in ("ab", "a", 6), ("ca", "b", 5), ("cc", "c", 5):
         good = [words for words in product(range(5), repeat=3) if all(c in takes[word] for c, word in zip(packet + key, words))]
         what = f"/{packet[0]}/{packet[1]} by /{key}"
-        yield what, sign(of, name(*packet), name(key)), allowed(2, 1, *good[0])
+        ends = reached(good[0][:2], 5), reached(good[0][2:], 5)
+        yield what, sign(of, name(*packet), name(key)), allowed(*ends, *good[0])
         for words in product(range(most), repeat=3):
             yield from followed(what, of, name(*packet), name(key), list(words), words in good)
 
@@ -394,20 +434,21 @@ def agree(components, words, named):
 
 
 def tags():
-    """A ValueEdge for a, and Tags 1 and 2, from each Node to the next, with both, one or none of the Tags named: all paths."""
+    """A ValueEdge for a, and Tags 1 and 2, at the start and at each Node behind it, with both, one or none of the Tags named: all paths."""
 
     def edges(to):
-        return value_edge(to, "a"), pattern_edge(to, 1), pattern_edge(to, 2)
+        return value_edge(to, "a"), pattern_edge(to + 1, 1), pattern_edge(to + 2, 2)
 
     several = list(product(range(3), repeat=4))
     for named in (0, 1, 2):
-        of = model(node(0, *edges(1)), node(1, parent(0), *edges(2)), node(2, parent(1), signer(2)), patterns=named)
+        of = full_tree(edges, 2, range(4, 13), patterns=named)
         for packet, key in ("ab", "ba"), ("aa", "ab"), ("bc", "cd"):
             good = [words for words in several if agree(packet + key, words, named)]
             what, line = f"/{'/'.join(packet)} by /{'/'.join(key)}, {named} Tags named", NOT_ALLOWED
             if good:
                 crossed = [word or None for word in good[0]]  # the Tag of each edge
-                line = allowed(2, 2, *good[0], **pair_bindings(name(*packet), crossed[:2], name(*key), crossed[2:], named))
+                ends = reached(good[0][:2], 3), reached(good[0][2:], 3)
+                line = allowed(*ends, *good[0], **pair_bindings(name(*packet), crossed[:2], name(*key), crossed[2:], named))
             yield what, sign(of, name(*packet), name(*key)), line
             for words in several:
                 yield from followed(what, of, name(*packet), name(*key), list(words), words in good)
@@ -545,9 +586,16 @@ def empty_names():
             yield from followed(what, listing, packet, key, [0] * size, found is not None and size == need)
         yield from none_accepted(what, listing, packet, key, ([1] * (need + 1), [65535], [0, 65535]))
     # from another Node than the first
-    second = model(node(0, value_edge(1, "a")), node(1, parent(0), value_edge(2, "b"), signer(1)), node(2, parent(1), signer(1)), start=1)
+    second = model(
+        node(0, value_edge(2, "a"), signer(0)),
+        node(1, value_edge(3, "b"), signer(1)),
+        node(2, parent(0), value_edge(4, "b"), signer(1)),
+        node(3, parent(1), signer(1)),
+        node(4, parent(2), signer(1)),
+        start=1,
+    )
     yield "the start is Node 1", sign(second, EMPTY, EMPTY, []), allowed(1, 1, path_words=[])
-    yield "the start is Node 1, /b by the empty name", sign(second, SLASH_B, EMPTY, [7]), allowed(2, 1, 0, path_words=[7])
+    yield "the start is Node 1, /b by the empty name", sign(second, SLASH_B, EMPTY, [7]), allowed(3, 1, 0, path_words=[7])
     for packet, key, words, holds in (
         (EMPTY, EMPTY, [], True),
         (SLASH_B, EMPTY, [0], True),
@@ -634,7 +682,7 @@ def by_hand():
     assert found == len(NOT_FIRST)
 
 
-SIGNING = room, unsigned, names_first, models_first, kinds, wide, widest, optional, other_elements, search, signers, twins, empty_names
+SIGNING = room, unsigned, names_first, models_first, kinds, wide, widest, optional, other_elements, search, signers, equal_edges, empty_names
 FOLLOWING = all_words, choices, tags, carried, constraints, lengths, single_words, other_tables, by_hand
 
 

@@ -55,17 +55,25 @@ FOLLOWS = {
 # models that are accepted
 
 
+def full_at(i, count):
+    """The index of the i-th Node with every kind of container: the start comes before them, and three Nodes for each."""
+    return 1 + 3 * count + i % count
+
+
 def full_parts(i, count, text="x"):
-    """What is in a Node with every kind of container. Its edges lead to the next Node, and from the last to the first."""
-    to = (i + 1) % count
+    """What is in it. Its edges lead to the next of its kind, from the last to the first, and to three Nodes that have nothing but a Parent."""
+    to = full_at(i + 1, count), *range(1 + 3 * i, 4 + 3 * i)
     terms = value(text), tag(1), call("$eq", value(text)), call("$eq_type", tag(1)), call("$isValidID")
-    constrained = pattern_edge(to, 2, constraint(), constraint(*map(option, terms)))
-    edges = value_edge(to, text), value_edge(to, "v"), pattern_edge(to, 1), constrained
-    return node_id(i), parent((i - 1) % count), rule_name("#a"), rule_name("#b"), *edges, signer(i), signer(0)
+    constrained = pattern_edge(to[3], 2, constraint(), constraint(*map(option, terms)))
+    edges = value_edge(to[0], text), value_edge(to[1], "v"), pattern_edge(to[2], 1), constrained
+    at = full_at(i, count)
+    return node_id(at), parent(full_at(i - 1, count)), rule_name("#a"), rule_name("#b"), *edges, signer(at), signer(0)
 
 
 def full_nodes(count, text="x"):
-    return [element(NODE, *full_parts(i, count, text)) for i in range(count)]
+    """The start leads to none of the others, so that these may lead around."""
+    ends = [node(1 + i, parent(full_at(i // 3, count))) for i in range(3 * count)]
+    return [node(0), *ends, *(element(NODE, *full_parts(i, count, text)) for i in range(count))]
 
 
 def full_model(nodes, text="x"):
@@ -83,9 +91,9 @@ CRITICAL = bytes.fromhex("8100")
 
 
 def good_models():
-    yield "three Nodes, no fault", verdict(THREE), "accepted 3"
+    yield "three Nodes, no fault", verdict(THREE), "accepted 13"
     for what, of in ("one Node", ONE), ("long texts", WIDE), *SPREAD.items():
-        yield f"{what}, no fault", verdict(of), "accepted 1"
+        yield f"{what}, no fault", verdict(of), "accepted 5"
 
 
 # the calls
@@ -507,8 +515,9 @@ def cuts():
     yield from verdicts(changed(ONE, cut_elements))
     yield from cut_models("A", A, ["refused 7 0"])
     yield from cut_models("B", B, ["refused 7 0", "refused 8 0"])
-    yield from cut_models("three Nodes", THREE, ["refused 7 0", "refused 8 0", "refused 8 1", "accepted 3"])
-    yield from cut_models("8000 in every gap", SPREAD["8000 in every gap"], ["refused 7 0", "accepted 1"])
+    some = [f"accepted {i}" for i in range(1, 11)]  # the start, and Nodes without edges
+    yield from cut_models("three Nodes", THREE, ["refused 7 0", *some, "refused 8 10", "refused 8 11", "accepted 13"])
+    yield from cut_models("8000 in every gap", SPREAD["8000 in every gap"], ["refused 7 0", *some[:5]])
 
 
 # Version
@@ -631,18 +640,21 @@ def two_faults():
 
 
 def long_file():
-    """A file of 9 KB with a fault in its first Node, one in the middle, the last, and behind it."""
-    count = 73
+    """A file of 9 KB with a fault before its first Node, one in the middle, the last, and behind it.
+
+    And with one in the first, a middle and the last of the Nodes that have every kind of container.
+    """
+    count = 61
     nodes = full_nodes(count)
     assert 9000 < len(full_model(nodes)) < 9300
-    for k, i in enumerate((0, count // 2, count - 1, count)):
+    for k, i in enumerate((0, full_at(count // 2, count), len(nodes) - 1, len(nodes))):
         for what, of in list(FAULTY_NODES.items())[k::4]:
             yield f"{what} before Node {i}", full_model([*nodes[:i], of, *nodes[i:]])
     for i in (0, count // 2, count - 1):
-        elements = full_parts(i, count)
+        elements, at = full_parts(i, count), full_at(i, count)
         for j in range(len(elements) + 1):
             held_in = element(NODE, *elements[:j], faulty(CRITICAL), *elements[j:])
-            yield f"a critical element in gap {j} of Node {i}", full_model([*nodes[:i], held_in, *nodes[i + 1 :]])
+            yield f"a critical element in gap {j} of Node {at}", full_model([*nodes[:at], held_in, *nodes[at + 1 :]])
 
 
 def largest():

@@ -82,22 +82,34 @@ class Maker:
 
     def node(self, i, parents):
         up = [] if parents[i] is None else [self.whole(PARENT, parents[i])]
-        children = [j for j, of in enumerate(parents) if of == i for _ in range(self.random.choice([0, 1, 1, 1, 2]))]
+        children = [j for j, of in enumerate(parents) if of == i and self.random.random() < 0.8]
         self.random.shuffle(children)
         edges = sorted(map(self.edge, children), key=lambda edge: edge[0])
         rules = self.some(3, lambda: element(IDENTIFIER, self.identifier("#")))
         signers = self.some(4, lambda: self.whole(SIGNER, self.random.randrange(len(parents))))
         return self.container(NODE, self.whole(NODE_ID, i), *up, *rules, *(edge for _, edge in edges), *signers)
 
-    def parents(self, count):
-        """Mostly of a tree; any number is good for a Node that no edge leads to."""
-        any_node, far = lambda: self.random.randrange(count), lambda: self.random.choice([count, 256, 65536, 2**32, 2**64 - 1])
-        return [None if i == 0 and self.random.random() < 0.7 else self.random.choice([any_node, any_node, any_node, far])() for i in range(count)]
+    def parents(self, count, start):
+        """Mostly of a tree, numbered in any order, whose root is the start: it has no Parent.
+
+        Any number, or none, is good for a Node that no edge leads to. Two others than the start may be each other's Parent, and one its own.
+        """
+        order = [i for i in range(count) if i != start]
+        self.random.shuffle(order)
+        found = {start: None}
+        for i in order:
+            any_node, far = self.random.randrange(count), self.random.choice([count, 256, 65536, 2**32, 2**64 - 1])
+            found[i] = self.random.choice([*[self.random.choice(list(found))] * 5, any_node, any_node, far, None])
+        if count > 2 and self.random.random() < 0.3:
+            one, other = order[-2:]
+            found[one], found[other] = other, one
+        return [found[i] for i in range(count)]
 
     def model(self):
         count = self.random.choice([1, 2, 3, 5, 8, 13, self.random.randint(1, 40)])
-        parents = self.parents(count)
-        head = [element(VERSION, GOOD_VERSION.to_bytes(4, "big")), self.whole(NODE_ID, self.random.randrange(count))]
+        start = self.random.randrange(count)
+        parents = self.parents(count, start)
+        head = [element(VERSION, GOOD_VERSION.to_bytes(4, "big")), self.whole(NODE_ID, start)]
         head.append(self.whole(PATTERN_COUNT, self.random.choice([0, 3, 128, 255, 256, 65536, 2**32, 2**64 - 1])))
         nodes = [self.node(i, parents) for i in range(count)]
         symbols = self.some(4, lambda: self.container(SYMBOL, self.tag(), element(IDENTIFIER, self.identifier())))

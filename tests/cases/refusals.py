@@ -3,60 +3,64 @@ from bench import B
 from build import *
 from limits import all_three
 
-COUNT = 5
-A_NAME = path("/a")
-NODE_RULES = (6, 8, 9, 10, 11, 12)  # these answer the Node's position, 2 the place of the fault, the others 0
+COUNT = 11
+FORKS = {0: (1, 4), 1: (2, 5), 2: (3, 6), 3: (COUNT - 1, 7), COUNT - 1: (8, 9)}  # where a Node's two edges lead; the others have none
+NODE_RULES = (6, 8, 9, 10, 11, 12, 13, 14)  # these answer the Node's position, 2 the place of the fault, the others 0
 
 
-def ring():
-    """Five Nodes, each with edges to the next and the last with edges to the first, as dicts, so that each part can be put at fault.
+def forks():
+    """A tree in which the first, the last and three other Nodes have two edges each, as dicts, so that each part can be put at fault.
 
-    Every Node has a Parent, a RuleName, a ValueEdge, a PatternEdge with an option, and a signer.
+    Every Node has a RuleName and a signer, and all but the start have a Parent. The edges are a ValueEdge, and a PatternEdge with an option.
     """
-    return [
-        dict(
-            at=i,
-            id=i,
-            parent=[parent((i - 1) % COUNT)],
-            to=(i + 1) % COUNT,
-            pattern_to=(i + 1) % COUNT,
-            tag=i + 1,
-            terms=[call("$eq", value("x"))],
-            signer=i,
-            behind=b"",
-        )
-        for i in range(COUNT)
-    ]
+    up = {to: i for i, both in FORKS.items() for to in both}
+    nodes = [dict(id=i, parent=[parent(up[i])] if i in up else [], is_start=i == 0, signer=i, behind=b"") for i in range(COUNT)]
+    for i, (to, pattern_to) in FORKS.items():
+        nodes[i].update(to=to, pattern_to=pattern_to, values=1, patterns=1, tag=i + 1, terms=[call("$eq", value("x"))])
+    return nodes
 
 
-def ring_model(nodes, more=(), **rest):
+def edges_of(n):
+    if "to" not in n:
+        return []
+    by_pattern = pattern_edge(n["pattern_to"], n["tag"], constraint(option(*n["terms"])))
+    return [value_edge(n["to"], "v")] * n["values"] + [by_pattern] * n["patterns"]
+
+
+def forks_model(nodes, more=(), **rest):
     written = [
-        element(
-            NODE,
-            node_id(n["id"]),
-            *n["parent"],
-            rule_name("#r"),
-            value_edge(n["to"], "v"),
-            pattern_edge(n["pattern_to"], n["tag"], constraint(option(*n["terms"]))),
-            signer(n["signer"]),
-            n["behind"],
-        )
-        for n in nodes
+        element(NODE, node_id(n["id"]), *n["parent"], rule_name("#r"), *edges_of(n), signer(n["signer"]), n["behind"]) for n in nodes
     ]
-    return model(*written, *more, **rest)
+    (start,) = (i for i, n in enumerate(nodes) if n["is_start"])
+    return model(*written, *more, **dict(start=start) | rest)
 
 
 def set_to(**changes):
     return lambda nodes, i: nodes[i].update(changes)
 
 
-def no_parent(nodes, i):
-    """The edges of Node i lead to a Node without a Parent."""
-    nodes[(i + 1) % COUNT]["parent"] = []
+def no_parent(edge):
+    """An edge of Node i leads to a Node without a Parent."""
+    return lambda nodes, i: nodes[nodes[i][edge]].update(parent=[])
 
 
-def other_parent(nodes, i):
-    nodes[(i + 1) % COUNT]["parent"] = [parent((i + 1) % COUNT)]
+def other_parent(edge):
+    return lambda nodes, i: nodes[nodes[i][edge]].update(parent=[parent(nodes[i][edge])])
+
+
+def start_with_parent(nodes, i):
+    """Node i is the start. It has the Parent whose edge leads to it, and the first Node gets one."""
+    for j, n in enumerate(nodes):
+        n["is_start"] = i == j
+    nodes[i]["parent"] = nodes[i]["parent"] or [parent(3)]
+
+
+def one_destination(nodes, i):
+    nodes[i]["pattern_to"] = nodes[i]["to"]
+
+
+def other_destination(nodes, i):
+    nodes[i]["to"] = nodes[i]["pattern_to"]
 
 
 # by refusal number: what puts Node i at fault
@@ -83,8 +87,10 @@ FAULTS = {
     11: [
         ("a ValueEdge to the Node itself", lambda nodes, i: nodes[i].update(to=i)),
         ("a PatternEdge to the Node itself", lambda nodes, i: nodes[i].update(pattern_to=i)),
-        ("an edge to a Node without Parent", no_parent),
-        ("an edge to a Node with another Parent", other_parent),
+        ("a ValueEdge to a Node without Parent", no_parent("to")),
+        ("a PatternEdge to a Node without Parent", no_parent("pattern_to")),
+        ("a ValueEdge to a Node with another Parent", other_parent("to")),
+        ("a PatternEdge to a Node with another Parent", other_parent("pattern_to")),
     ],
     12: [
         ("a function not known", set_to(terms=[call("$other")])),
@@ -97,6 +103,14 @@ FAULTS = {
         ("$isValidID with an argument", set_to(terms=[call("$isValidID", value("x"))])),
         ("$isValidYear with an argument", set_to(terms=[call("$isValidYear", tag(1))])),
     ],
+    13: [("the start with a Parent", start_with_parent)],
+    14: [
+        ("a ValueEdge and a PatternEdge to the ValueEdge's Node", one_destination),
+        ("a ValueEdge and a PatternEdge to the PatternEdge's Node", other_destination),
+        ("two equal ValueEdges", set_to(values=2)),
+        ("two equal PatternEdges", set_to(patterns=2)),
+        ("three of both", set_to(values=3, patterns=3)),
+    ],
 }
 
 
@@ -105,28 +119,28 @@ def refused(rule, i, of):
 
 
 def one_fault():
-    yield "the ring", verdict(ring_model(ring())), "accepted 5"
+    yield "no fault", verdict(forks_model(forks())), f"accepted {COUNT}"
     for rule, faults in FAULTS.items():
         for what, fault in faults:
             for i in (0, 2, COUNT - 1):
-                nodes = ring()
+                nodes = forks()
                 fault(nodes, i)
-                of = ring_model(nodes)
+                of = forks_model(nodes)
                 yield f"{what} in Node {i}", verdict(of), refused(rule, i, of)
         # what one rule refuses, all three calls refuse alike
         for i in (0, 2, COUNT - 1):
-            nodes = ring()
+            nodes = forks()
             faults[0][1](nodes, i)
-            of = ring_model(nodes)
+            of = forks_model(nodes)
             yield from all_three(f"{faults[0][0]} in Node {i}", of, refused(rule, i, of))
-    yield from all_three("another version", ring_model(ring(), version=0x00011001), "refused 3 0")
-    yield from all_three("a StartId of no Node", ring_model(ring(), start=COUNT), "refused 7 0")
-    yield "StartId is the last Node", verdict(ring_model(ring(), start=COUNT - 1)), "accepted 5"
+    yield from all_three("another version", forks_model(forks(), version=0x00011001), "refused 3 0")
+    yield from all_three("a StartId of no Node", forks_model(forks(), start=COUNT), "refused 7 0")
+    yield "StartId is the last Node", verdict(forks_model(forks(), [node(COUNT)], start=COUNT)), f"accepted {COUNT + 1}"
 
 
 def with_faults(**at):
-    """The ring with a fault of each rule named, r5=3 for rule 5 at Node 3. Rules 1, 3, 4 and 7 concern no Node."""
-    nodes, rest = ring(), {}
+    """The tree with a fault of each rule named, r5=3 for rule 5 at Node 3. Rules 1, 3, 4 and 7 concern no Node."""
+    nodes, rest = forks(), {}
     for rule, i in sorted((int(key[1:]), i) for key, i in at.items()):
         if rule == 1:
             rest["behind"] = element(0x80, bytes(32768))
@@ -137,23 +151,23 @@ def with_faults(**at):
         elif rule == 7:
             rest["start"] = 300
         elif rule in (8, 9):
-            # with 257 Nodes, 5 names one
+            # with 257 Nodes, COUNT names one
             nodes[i].update(to=300) if rule == 8 else nodes[i].update(signer=300)
         else:
             FAULTS[rule][0][1](nodes, i)
-    return ring_model(nodes, **rest)
+    return forks_model(nodes, **rest)
 
 
 def two_faults():
     """The lower number wins, whichever stands first, and the node is its own; but 3 outranks any fault after Version.
 
-    1 is long, so it is tried with fewer others.
+    1 is long, so it is tried with fewer others. 13 and 14 are tried in one Node with the others too, where theirs are not in the way.
     """
-    for low in range(1, 13):
-        for high in range(low + 1, 13):
-            if low == 1 and high not in (2, 3, 12):
+    for low in range(1, 15):
+        for high in range(low + 1, 15):
+            if low == 1 and high not in (2, 3, 12, 14):
                 continue
-            for i, j in ((3, 1), (1, 3)):
+            for i, j in ((3, 1), (1, 3), (2, 2)) if high >= 13 else ((3, 1), (1, 3)):
                 of = with_faults(**{f"r{low}": i, f"r{high}": j})
                 answer = "refused 3 0" if (low, high) == (2, 3) else refused(low, i, of)
                 yield f"rule {low} in Node {i}, rule {high} in Node {j}", verdict(of), answer
@@ -161,15 +175,17 @@ def two_faults():
 
 def one_rule_twice():
     for rule, faults in FAULTS.items():
-        nodes = ring()
+        if rule == 13:  # there is one start
+            continue
+        nodes = forks()
         for i in (3, 1):
             faults[0][1](nodes, i)
-        of = ring_model(nodes)
+        of = forks_model(nodes)
         yield f"rule {rule} in Nodes 1 and 3", verdict(of), refused(rule, 1, of)
     # an edge's faults in both of a Node's edges, and a rule's two faults in one Node
-    nodes = ring()
-    nodes[2].update(to=9, pattern_to=9, signer=9)
-    yield "every reference of Node 2", verdict(ring_model(nodes)), "refused 8 2"
+    nodes = forks()
+    nodes[2].update(to=COUNT, pattern_to=COUNT, signer=COUNT)
+    yield "every reference of Node 2", verdict(forks_model(nodes)), "refused 8 2"
 
 
 def version_first():
@@ -202,7 +218,8 @@ def malformed():
         return first(pattern_edge(1, 1, constraint(option(*terms))))
 
     head = model()
-    yield "every order kept", verdict(first(rule_name("#a"), rule_name("#_b9"), value_edge(1, "v"), pattern_edge(1, 1), signer(1))), "accepted 2"
+    every = node(0, rule_name("#a"), rule_name("#_b9"), value_edge(1, "v"), pattern_edge(2, 1), signer(1))
+    yield "every order kept", verdict(model(every, leaf, node(2, parent(0)))), "accepted 3"
     wrong = (
         ("no StartId", faulty(head[:6] + head[9:] + node(0), 6)),
         ("no NamedPatternCnt", faulty(head[:9] + node(0), 9)),

@@ -11,7 +11,7 @@ from document_003 import T_ADMIN, T_ARTICLE, T_AUTHOR, T_ROOT, T_USER, TUTORIAL_
 from document_003 import by_rules, check_line, quick, quick_tags, tutorial, tutorial_tags
 from gaps import CRITICAL, FULL, OPTIONAL, PACKET, put_everywhere, put_in
 from limits import A_NAME, all_three
-from refusals import FAULTS, refused, ring, ring_model
+from refusals import COUNT, FAULTS, forks, forks_model, refused
 from writing import Part, both
 
 LARGEST = 2**64 - 1
@@ -120,18 +120,18 @@ def repeated():
         yield f"three times, count {count}: different components", match(apart, path("/a/x/b/x/c"), OLD), matched(5) if free else NO_MATCH
         line = walked(5, "/a/x/a/x/a", (1, None, 1, None, 1), count)
         yield f"three times, count {count}: equal components", match(apart, path("/a/x/a/x/a"), OLD), line
-        # an edge from a Node to itself, crossed once for each component
-        itself = model(node(0, parent(0), pattern_edge(0, 1), signer(0)), patterns=count)
+        # a chain of as many edges as a name has components
+        longest = tree([*[(1,)] * 32, (1, 2, 32)], patterns=count)
         different, equal = name(*(f"{i:02}" for i in range(32))), name(*["00"] * 32)
-        yield f"32 times, count {count}: different components", match(itself, different, OLD), matched(0) if free else NO_MATCH
-        yield f"32 times, count {count}: equal components", match(itself, equal, OLD), matched(0) if free else matched(0, (1, 2, 4))
+        yield f"32 times, count {count}: different components", match(longest, different, OLD), matched(32) if free else NO_MATCH
+        yield f"32 times, count {count}: equal components", match(longest, equal, OLD), matched(32) if free else matched(32, (1, 2, 4))
         room = list(range(900, 968))  # four words more than two names of 32 components take
-        line = allowed_if(free, 0, 0, *[0] * 64, path_words=room)
-        yield f"32 times in both names, count {count}", sign(itself, different, different, room), line
-        line = allowed_if(free, 0, 0, *[0] * 33, path_words=room)
-        yield f"32 times, another key, count {count}", sign(itself, equal, path("/01"), room), line
-        line = allowed(0, 0, *[0] * 34, path_words=room, packet=[(1, 2, 4)][:count])
-        yield f"32 times, the same key, count {count}", sign(itself, equal, path("/00/00"), room), line
+        line = allowed_if(free, 32, 32, *[0] * 64, path_words=room)
+        yield f"32 times in both names, count {count}", sign(longest, different, different, room), line
+        line = allowed_if(free, 32, 1, *[0] * 33, path_words=room)
+        yield f"32 times, another key, count {count}", sign(longest, equal, path("/01"), room), line
+        line = allowed(32, 2, *[0] * 34, path_words=room, packet=[(1, 2, 4)][:count])
+        yield f"32 times, the same key, count {count}", sign(longest, equal, path("/00/00"), room), line
         # rules p and q, whose keys are of rule k
         rules = tree(["p", (1,), (6,)], ["q", (1,), (6,)], ["k", (1,), ()], patterns=count)
         for packet, found in ("/p/a", (2, 6, 0, 0, 2, 0)), ("/q/a", (4, 6, 1, 0, 2, 0)):
@@ -484,11 +484,11 @@ def unchanged():
                 yield f"{what}, of {where}", verdict(model(node(0, edge), second, patterns=count)), "refused 5 0"
             yield f"{what}, of a TagSymbol", verdict(model(node(0), patterns=count, behind=symbol(n, "a"))), "refused 5 0"
     for count in (0, 1, 5, 128, 129, LARGEST):
-        yield f"the ring, count {count}", verdict(ring_model(ring(), patterns=count)), "accepted 5"
+        yield f"no fault, count {count}", verdict(forks_model(forks(), patterns=count)), f"accepted {COUNT}"
         for rule, faults in FAULTS.items():
-            nodes = ring()
+            nodes = forks()
             faults[0][1](nodes, 2)
-            of = ring_model(nodes, patterns=count)
+            of = forks_model(nodes, patterns=count)
             yield f"rule {rule}, count {count}", verdict(of), refused(rule, 2, of)
     for what, symbols in (
         ("none", ()),

@@ -15,14 +15,22 @@ def built():
     yield "comments", "// text\n//\nstart 0 // #x\npatterns 0 //\n\n  // node 7\nnode 0\t//\n", A
     yield "zeros before a number", f"start 00\npatterns {'0' * 5000}255\nnode 0", model(node(0), patterns=255)
     yield "the largest number", f"start 0\npatterns {2**64 - 1}\nnode 0", model(node(0), patterns=2**64 - 1)
-    parts = "  signer 1\n  edge tag 1 to 1\n  signer 0\n  edge value b to 1\n  rule #b\n  edge value a to 1\n  rule #a"
-    of = node(0, rule_name("#b"), rule_name("#a"), value_edge(1, "b"), value_edge(1, "a"), pattern_edge(1, 1), signer(1), signer(0))
-    mixed = model(of, node(1, parent(0)), behind=symbol(2, "s") + symbol(1, "t"))
-    yield "parts in another order", f"symbol 2 s\nnode 0\n{parts}\nsymbol 1 t\nnode 1\nparent 0\npatterns 0\nstart 0\n", mixed
+    parts = "  signer 1\n  edge tag 1 to 3\n  signer 0\n  edge value b to 1\n  rule #b\n  edge value a to 2\n  rule #a"
+    of = node(0, rule_name("#b"), rule_name("#a"), value_edge(1, "b"), value_edge(2, "a"), pattern_edge(3, 1), signer(1), signer(0))
+    mixed = model(of, *(node(i, parent(0)) for i in (1, 2, 3)), behind=symbol(2, "s") + symbol(1, "t"))
+    others = "".join(f"node {i}\nparent 0\n" for i in (1, 2, 3))
+    yield "parts in another order", f"symbol 2 s\nnode 0\n{parts}\nsymbol 1 t\n{others}patterns 0\nstart 0\n", mixed
+    mutual = model(node(0), node(1, parent(2)), node(2, parent(1)))
+    yield "mutual parents", "start 0\npatterns 0\nnode 0\nnode 1\nparent 2\nnode 2\nparent 1\n", mutual
+
+    def of_edge(edge):
+        return model(node(0, parent(1)), node(1, edge), start=1)
+
+    head = "start 1\npatterns 0\nnode 0\nparent 1\nnode 1\n"
+    edge = f"{head}edge tag 1 to 0\nconstraint\n"
     calls = [option(call("$isValidID")), option(call("$isValidYear")), option(call("$eq", tag(1)))]
-    edge = "start 0\npatterns 0\nnode 0\nparent 0\nedge tag 1 to 0\nconstraint\n"
     written = "option $isValidID\noption $isValidYear ( )\noption $eq( tag 1 )\n"
-    yield "ways to write a call", edge + written, model(node(0, parent(0), pattern_edge(0, 1, constraint(*calls))))
+    yield "ways to write a call", edge + written, of_edge(pattern_edge(0, 1, constraint(*calls)))
     for uri, of in (
         ("a", component("a")),
         ("%41%3dé", component("A=é")),
@@ -37,9 +45,8 @@ def built():
         ("$eq", component("$eq")),
         ("a:;@!*+'&?#", component("a:;@!*+'&?#")),
     ):
-        value_of = f"start 0\npatterns 0\nnode 0\nparent 0\nedge value {uri} to 0\n"
-        yield f"component {uri}", value_of, model(node(0, parent(0), value_edge(0, of)))
-        option_of = model(node(0, parent(0), pattern_edge(0, 1, constraint(option(value(of)), option(call("$eq", value(of)))))))
+        yield f"component {uri}", f"{head}edge value {uri} to 0\n", of_edge(value_edge(0, of))
+        option_of = of_edge(pattern_edge(0, 1, constraint(option(value(of)), option(call("$eq", value(of))))))
         yield f"component {uri} in options", f"{edge}option value {uri}\noption $eq(value {uri})\n", option_of
 
 
@@ -184,3 +191,8 @@ def refused():
     yield f"{head}node 0\nedge value a to 1\nnode 1\n", 11, 0, [(3, "node 0")]
     yield f"{head}node 0\nnode 1\nparent 1\nedge tag 1 to 1\nconstraint\noption $no()\n", 12, 1, [(4, "node 1")]
     yield edge + "option $eq()\n", 12, 0, [(3, "node 0")]
+    yield f"{head}node 0\nparent 0\n", 13, 0, [(3, "node 0")]
+    yield f"node 0\n\nnode 1\n  parent {2**64 - 1}\nstart 1\npatterns 0\n", 13, 1, [(3, "node 1")]
+    twins = "edge value a to 2\nedge value b to 2"
+    yield f"{head}node 0\nnode 1 // x\n{twins}\nnode 2\nparent 1\n", 14, 1, [(4, "node 1")]
+    yield f"{head}node 0\n{twins}\nparent 0\nnode 1\nnode 2\nparent 0\n", 13, 0, [(3, "node 0")]

@@ -1,6 +1,5 @@
 """The walk and the signing answer: backtracking, order, bindings, Constraints, functions."""
 from build import *
-from limits import LOOP
 
 AB = path("/a/b")  # its components stand at 2 and 5, with 3 bytes each
 
@@ -81,17 +80,38 @@ def bound_too_soon():
 
 
 def parents():
-    """Nodes that are each other's parent: the name's length ends the walk."""
-    yield "mutual parents", verdict(LOOP), "accepted 2"
-    for length in range(4):
-        yield f"mutual parents, {length} components", match(LOOP, name(*["a"] * length), OLD), matched(length % 2)
-    yield "mutual parents, another component", match(LOOP, path("/a/a/b"), OLD), kept("no match")
-    yield "mutual parents, signing", sign(LOOP, path("/a/a/a"), path("/a/a")), allowed(1, 0, 0, 0, 0, 0, 0)
-    # a Node that is its own parent, with a Tag that each turn has to keep
-    itself = model(node(0, parent(0), pattern_edge(0, 1), signer(0)), patterns=1)
-    yield "its own parent", match(itself, path("/a/a/a"), OLD), matched(0, (1, 2, 3))
+    """Nodes that are each other's parent, or their own: no walk comes to them, though a name would lead around there for ever."""
+    # Nodes 0, 1 and 2 are a chain; Nodes 3 and 4 lead to each other, and all are listed as signers
+    every = [signer(i) for i in range(5)]
+    mutual = model(
+        node(0, value_edge(1, "a"), *every),
+        node(1, parent(0), value_edge(2, "a"), *every),
+        node(2, parent(1), *every),
+        node(3, parent(4), value_edge(4, "a"), *every),
+        node(4, parent(3), value_edge(3, "a"), *every),
+    )
+    yield "mutual parents", verdict(mutual), "accepted 5"
+    for length in range(3):
+        yield f"mutual parents, {length} components", match(mutual, name(*["a"] * length), OLD), matched(length)
+    for length in (3, 4, 32):
+        yield f"mutual parents, {length} components", match(mutual, name(*["a"] * length), OLD), kept("no match")
+    yield "mutual parents, another component", match(mutual, path("/a/b"), OLD), kept("no match")
+    yield "mutual parents, signing", sign(mutual, path("/a/a"), path("/a")), allowed(2, 1, 0, 0, 0)
+    yield "mutual parents, a longer packet name", sign(mutual, path("/a/a/a"), path("/a/a")), NOT_ALLOWED
+    yield "mutual parents, a longer key name", sign(mutual, path("/a/a"), path("/a/a/a/a")), NOT_ALLOWED
+    # beside a Node that is its own parent, a chain with a Tag that each edge has to keep
+    itself = model(
+        node(0, pattern_edge(1, 1), signer(0)),
+        node(1, parent(0), pattern_edge(2, 1), signer(2)),
+        node(2, parent(1), pattern_edge(3, 1)),
+        node(3, parent(2)),
+        node(4, parent(4), pattern_edge(4, 1), signer(4)),
+        patterns=1,
+    )
+    yield "its own parent", match(itself, path("/a/a/a"), OLD), matched(3, (1, 2, 3))
     yield "its own parent, another component", match(itself, path("/a/a/b"), OLD), kept("no match")
-    yield "its own parent, signing", sign(itself, path("/a"), path("/a/a")), allowed(0, 0, 0, 0, 0, packet=[(1, 2, 3)])
+    yield "its own parent, signing", sign(itself, path("/a"), path("/a/a")), allowed(1, 2, 0, 0, 0, packet=[(1, 2, 3)])
+    yield "its own parent, a longer name", match(itself, path("/a/a/a/a"), OLD), kept("no match")
 
 
 def later_branches():
@@ -129,11 +149,19 @@ def order():
 
 def starts():
     """The walk starts at StartId; the empty name matches there."""
-    second = model(node(0, value_edge(1, "a")), node(1, parent(0), value_edge(2, "b"), signer(1)), node(2, parent(1)), start=1)
-    yield "the empty name", match(second, name(), OLD), matched(1)
-    yield "from StartId", match(second, path("/b"), OLD), matched(2)
+    # from Node 0 /a/b would lead to Node 2
+    second = model(
+        node(0, value_edge(1, "a")),
+        node(1, parent(0), value_edge(2, "b"), signer(1)),
+        node(2, parent(1)),
+        node(3, value_edge(4, "b"), signer(3)),
+        node(4, parent(3)),
+        start=3,
+    )
+    yield "the empty name", match(second, name(), OLD), matched(3)
+    yield "from StartId", match(second, path("/b"), OLD), matched(4)
     yield "not from Node 0", match(second, AB, OLD), kept("no match")
-    yield "empty by empty", sign(second, name(), name()), allowed(1, 1)
+    yield "empty by empty", sign(second, name(), name()), allowed(3, 3)
     yield "a longer name than any path", match(second, path("/b/c"), OLD), kept("no match")
 
 

@@ -161,24 +161,24 @@ B_LISTS = Part([0, 1, 2, *(0, 0, 0, 0, 1, 1, 1, 0, 0), *(1, 1, 0, 0, 0, 0, 1, 1)
 # every kind of thing, with its lists by hand
 ALL = Part(
     [
-        *(1, 2, 4),  # start, patterns, Nodes
-        *(0, 0, 2, 4, 3, 2, 1, 8, 3, 1, 54, 1, 0, 0),  # Node 0: two rule names; two ValueEdges
-        *(1, 1, 0, 0, 0, 2),  # Node 1, its Parent and two PatternEdges
+        *(1, 2, 5),  # start, patterns, Nodes
+        *(0, 1, 1, 0, 0, 2),  # Node 0, its Parent and two PatternEdges
         *(2, 1, 0),  # to 2, Tag 1, no Constraint
         *(3, 128, 3, 0),  # to 3, Tag 128: a Constraint without options
         *(2, 1, 0, 8, 0, 1, 1, 2),  # one with the empty component and Tag 2
         *(3, 1, 2, 3, 1, 1, 1, 1, 2, 8, 1, 0, 253, 2, 1, 2, 10, 0),  # one with three calls
-        *(2, 2, 1),  # two signers, and Node 1 has no more
-        *(2, 1, 1, 0, 0, 0, 1, 3),  # Node 2
-        *(3, 1, 1, 1, 2, 0, 0, 0),  # Node 3
+        *(2, 2, 1),  # two signers, and Node 0 has no more
+        *(1, 0, 2, 4, 3, 2, 0, 8, 3, 4, 54, 1, 0, 0),  # Node 1: two rule names; two ValueEdges
+        *(2, 1, 0, 0, 0, 0, 1, 3),  # Node 2
+        *(3, 1, 0, 1, 2, 0, 0, 0),  # Node 3
+        *(4, 1, 1, 0, 0, 0, 0),  # Node 4
         *(2, 1, 1, 128, 4),  # symbols
     ],
-    b"#top" + b"#_9" + b"ndn" + b"\x03" + b"" + b"$eq" + b"$eq_type" + b"\x00\xff" + b"$isValidID" + b"#r" + b"u" + b"part",
+    b"" + b"$eq" + b"$eq_type" + b"\x00\xff" + b"$isValidID" + b"#top" + b"#_9" + b"ndn" + b"\x03" + b"#r" + b"u" + b"part",
     model(
-        node(0, rule_name("#top"), rule_name("#_9"), value_edge(1, "ndn"), value_edge(1, component(b"\x03", 54))),
         node(
-            1,
-            parent(0),
+            0,
+            parent(1),
             pattern_edge(2, 1),
             pattern_edge(
                 3,
@@ -194,8 +194,10 @@ ALL = Part(
             signer(2),
             signer(1),
         ),
-        node(2, parent(1), signer(3)),
-        node(3, parent(1), rule_name("#r")),
+        node(1, rule_name("#top"), rule_name("#_9"), value_edge(0, "ndn"), value_edge(4, component(b"\x03", 54))),
+        node(2, parent(0), signer(3)),
+        node(3, parent(0), rule_name("#r")),
+        node(4, parent(1)),
         start=1,
         patterns=2,
         behind=symbol(1, "u") + symbol(128, "part"),
@@ -207,14 +209,17 @@ def examples():
     yield from both("A", A_LISTS)
     yield from both("B", B_LISTS)
     yield from both("every kind of thing", ALL)
-    of = a_model(a_node(0, 0, patterns=[a_pattern(0, 1, a_constraint(an_option(a_call("$eq", a_tag(1)))))]))
+    of = with_second(patterns=[a_pattern(1, 1, a_constraint(an_option(a_call("$eq", a_tag(1)))))])
     yield from both("its own parent, and a call", of)
+    yield from both("mutual parents", a_model(a_node(0), a_node(1, 2, values=[an_edge(2, "x")]), a_node(2, 1, values=[an_edge(1, "y")])))
+    yield from both("two equal edges to two Nodes", a_model(a_node(0, values=[an_edge(1, "x"), an_edge(2, "x")]), a_node(1, 0), a_node(2, 0)))
     yield from both("the same signer three times", a_model(a_node(0, signers=[0, 0, 0])))
     yield from both("two symbols of one Tag", a_model(a_node(0), symbols=[a_symbol(1, "a"), a_symbol(1, "b")]))
     yield from both("256 Nodes", a_model(*(a_node(i) for i in range(256)), start=255))
-    yield from both("components of every byte", a_model(a_node(0, 0, values=[an_edge(0, bytes(range(256)), typ) for typ in (1, 8)])))
+    edges = [an_edge(to, bytes(range(256)), typ) for to, typ in ((1, 1), (2, 8))]
+    yield from both("components of every byte", a_model(a_node(0, values=edges), a_node(1, 0), a_node(2, 0)))
     for typ in (1, 7, 252, 253, 65535):
-        yield from both(f"a component of type {typ}", a_model(a_node(0, 0, values=[an_edge(0, "x", typ)])))
+        yield from both(f"a component of type {typ}", node_with(values=[an_edge(1, "x", typ)]))
 
 
 # lists that form no description
@@ -256,12 +261,13 @@ def no_descriptions():
 # descriptions that are refused
 
 
-def node_with(**rest):
-    return a_model(a_node(0, 0, **rest))
+def node_with(rules=(), **edge):
+    """A Node with these rule names and an edge to the next."""
+    return a_model(a_node(0, rules=rules, **edge), a_node(1, 0))
 
 
 def an_edge_with(*constraints):
-    return node_with(patterns=[a_pattern(0, 1, *constraints)])
+    return node_with(patterns=[a_pattern(1, 1, *constraints)])
 
 
 def a_term(*terms):
@@ -269,14 +275,22 @@ def a_term(*terms):
 
 
 def with_second(**rest):
+    """The start, and a Node that is its own Parent."""
     return a_model(a_node(0), a_node(1, 1, **rest))
+
+
+# two edges, to these Nodes
+TWO_EDGES = {
+    "two ValueEdges": lambda a, b: dict(values=[an_edge(a, "x"), an_edge(b, "y")]),
+    "two PatternEdges": lambda a, b: dict(patterns=[a_pattern(a, 1), a_pattern(b, 2)]),
+    "a ValueEdge and a PatternEdge": lambda a, b: dict(values=[an_edge(a, "x")], patterns=[a_pattern(b, 1)]),
+}
 
 
 def refused_descriptions():
     """(what, description, answer)."""
-    long_text = a_model(a_node(0, 0, values=[an_edge(0, bytes(32768))]))
-    yield "longer than 32,768 bytes", long_text, "refused 1 0"
-    yield "longer, and a rule name without #", a_model(a_node(0, 0, ["x"], values=[an_edge(0, bytes(32768))])), "refused 1 0"
+    yield "longer than 32,768 bytes", node_with(values=[an_edge(1, bytes(32768))]), "refused 1 0"
+    yield "longer, and a rule name without #", node_with(["x"], values=[an_edge(1, bytes(32768))]), "refused 1 0"
     for text in ("", "#", "a", "#9", "#a-b", "##a", b"#\xc3\xa9"):
         of = node_with(rules=[bad(text)])
         yield f"rule name {text!r}", of, refused_at(of.data)
@@ -287,12 +301,12 @@ def refused_descriptions():
         of = a_term(a_call(bad(text), a_tag(1)))
         yield f"function {text!r}", of, refused_at(of.data)
     for typ in (0, 65536, 2**32 - 1, 2**32, 2**64 - 1):
-        edge, term = node_with(values=[an_edge(0, "x", typ)]), a_term(a_value("x", typ))
+        edge, term = node_with(values=[an_edge(1, "x", typ)]), a_term(a_value("x", typ))
         yield f"a component of type {typ}", edge, refused_at(edge.data)
         yield f"an option of type {typ}", term, refused_at(term.data)
     yield "257 Nodes", a_model(*(a_node(i) for i in range(257))), "refused 4 0"
     for n in (0, 129, 2**32 + 1):
-        yield f"Tag {n} on an edge", node_with(patterns=[a_pattern(0, n)]), "refused 5 0"
+        yield f"Tag {n} on an edge", node_with(patterns=[a_pattern(1, n)]), "refused 5 0"
         yield f"Tag {n} in an option", a_term(a_tag(n)), "refused 5 0"
         yield f"Tag {n} in an argument", a_term(a_call("$eq", a_tag(n))), "refused 5 0"
         yield f"Tag {n} of a symbol", a_model(a_node(0), symbols=[a_symbol(n, "a")]), "refused 5 0"
@@ -313,8 +327,24 @@ def refused_descriptions():
     yield "a function that is not known", a_term(a_call("$no")), "refused 12 0"
     yield "$eq without an argument", a_term(a_call("$eq")), "refused 12 0"
     yield "$isValidID with two", a_term(a_call("$isValidID", a_tag(1), a_value("x"))), "refused 12 0"
+    for up in (0, 1, 2**64 - 1):
+        yield f"the start with Parent {up}", a_model(a_node(0, up)), "refused 13 0"
+        yield f"the start being Node 2, with Parent {up}", a_model(a_node(0), a_node(1, 0), a_node(2, up), start=2), "refused 13 2"
+    of = a_model(a_node(0, 1, values=[an_edge(1, "x")]), a_node(1, 0, values=[an_edge(0, "x")]))
+    yield "mutual parents, one of them the start", of, "refused 13 0"
+    for what, edges in TWO_EDGES.items():
+        yield f"{what} to one Node", a_model(a_node(0, **edges(1, 1)), a_node(1, 0)), "refused 14 0"
+        of = a_model(a_node(0), a_node(1), a_node(2, **edges(3, 3)), a_node(3, 2))
+        yield f"{what} of Node 2 to one Node", of, "refused 14 2"
+        yield f"{what} of the start, with a Parent, to one Node", a_model(a_node(0, 0, **edges(1, 1)), a_node(1, 0)), "refused 13 0"
+        yield f"{what} to no Node", a_model(a_node(0, **edges(1, 1))), "refused 8 0"
+        yield f"{what} to one Node with another Parent", a_model(a_node(0, **edges(1, 1)), a_node(1, 1)), "refused 11 0"
     # the lower number first
     yield "5 before 6", a_model(a_node(7, 7, patterns=[a_pattern(0, 0)])), "refused 5 0"
+    unknown = a_pattern(1, 1, a_constraint(an_option(a_call("$no"))))
+    yield "12 before 13 and 14", a_model(a_node(0, 0, patterns=[unknown, unknown]), a_node(1, 0)), "refused 12 0"
+    of = a_model(a_node(0, **TWO_EDGES["two ValueEdges"](1, 1)), a_node(1, 0), a_node(2, 9), start=2)
+    yield "13 at Node 2, 14 at Node 0", of, "refused 13 2"
     of = a_model(*(a_node(i, rules=[bad("x")]) for i in range(257)))
     yield "2 before 4", of, refused_at(of.data)
     yield "9 at the first of two Nodes", a_model(a_node(0), a_node(1, signers=[5]), a_node(2, signers=[5])), "refused 9 1"
@@ -364,6 +394,8 @@ def lists():
         ("32,769 bytes", padded(A, 32769), "refused 1 0"),
         ("StartId 9", model(node(0), start=9), "refused 7 0"),
         ("a signer that is no Node", model(node(0), node(1, signer(2))), "refused 9 1"),
+        ("a start with a Parent", model(node(0), node(1, parent(0)), start=1), "refused 13 1"),
+        ("two edges to one Node", model(node(0), node(1, value_edge(2, "a"), pattern_edge(2, 1)), node(2, parent(1))), "refused 14 1"),
     ):
         yield from not_described(f"{what}, no lists", of, answer, 0, 0)
         yield from not_described(f"{what}, lists with room", of, answer, 30, 30)
@@ -375,7 +407,7 @@ def lists():
 def widths():
     for n in (255, 256, 65535, 65536, 2**32 - 1, 2**32, 2**64 - 1):
         yield from both(f"pattern count {n}", a_model(a_node(0), patterns=n))
-        yield from both(f"Parent {n}", a_model(a_node(0, n)))  # of a Node that no edge leads to
+        yield from both(f"Parent {n}", a_model(a_node(0), a_node(1, n)))  # of a Node that no edge leads to
     sizes = {0: "an empty component", 252: "a component of 252", 253: "a component of 253"}
     for inside, size in ("the Value's inside", 2), ("the edge's inside", 7), ("the Node's inside", 12):
         sizes |= {252 - size: f"{inside} of 252", 253 - size: f"{inside} of 253"}
@@ -390,9 +422,9 @@ def widths():
         yield from both(f"a symbol of {length} bytes", a_model(a_node(0), symbols=[a_symbol(1, "s" * length)]))
 
     def of_bytes(size):
-        """A model of so many bytes, by the length of a component: A's 17, a Parent of 3, an edge and three longer headers."""
-        rest = 17 + 3 + 9 + 2 * 4
-        return node_with(values=[an_edge(0, bytes(size - rest))])
+        """A model of so many bytes, by the length of a component: A's 17, an edge, four longer headers and a second Node."""
+        rest = 17 + 9 + 2 * 4 + 8
+        return node_with(values=[an_edge(1, bytes(size - rest))])
 
     assert len(of_bytes(32768).data) == 32768
     yield from both("32,768 bytes", of_bytes(32768))
