@@ -51,8 +51,8 @@ enum Call {
 const CALLS: [(usize, Call); 4] = [
     (20, Call::Verdict),
     (40, Call::Match),
-    (28, Call::Sign),
-    (12, Call::Bind),
+    (26, Call::Sign),
+    (14, Call::Bind),
 ];
 
 /// The case with this index.

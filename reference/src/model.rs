@@ -140,8 +140,9 @@ impl Edge<'_, '_> {
 }
 
 impl<'a> Node<'a> {
-    /// All edges, ValueEdges first. An edge's ordinal is its index among these; a
-    /// model has no room for so many that 16 bits wouldn't do.
+    /// All edges, ValueEdges first. An edge's ordinal is its index among these. In an
+    /// accepted model there are at most 255, one to each node but the start; and no
+    /// model has room for so many that 16 bits wouldn't do.
     pub fn edges(&self) -> impl Iterator<Item = Edge<'_, 'a>> {
         let by_value = self.value_edges.iter().map(Edge::Value);
         let by_pattern = self.pattern_edges.iter().map(Edge::Pattern);

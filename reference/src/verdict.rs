@@ -27,6 +27,10 @@ pub enum Reason {
     OptionNotSingle = 10,
     ParentNotSource = 11,
     CallUnknown = 12,
+    /// The start has a Parent, so it could be reached again.
+    StartHasParent = 13,
+    /// Two edges of a node lead to the same destination.
+    TwinEdges = 14,
     PacketTooLong = 21,
     PacketMalformed = 22,
     PacketComponents = 23,
@@ -107,6 +111,8 @@ pub fn load(bytes: &[u8]) -> Result<Model<'_>, Refusal> {
     test_options(&model)?;
     test_parents(&model)?;
     test_calls(&model)?;
+    test_start_parent(&model)?;
+    test_twins(&model)?;
     Ok(model)
 }
 
@@ -211,6 +217,21 @@ fn test_calls(model: &Model) -> Result<(), Refusal> {
         node.options()
             .flat_map(|option| &option.terms)
             .any(|term| matches!(term, Term::Call(call) if !call.is_callable()))
+    })
+}
+
+/// Needs a start that names a node. Whatever its Parent names is too much.
+fn test_start_parent(model: &Model) -> Result<(), Refusal> {
+    refuse_first(model, Reason::StartHasParent, |index, node| {
+        index as u64 == model.start && node.parent.is_some()
+    })
+}
+
+fn test_twins(model: &Model) -> Result<(), Refusal> {
+    refuse_first(model, Reason::TwinEdges, |_, node| {
+        let mut destinations: Vec<u64> = node.destinations().collect();
+        destinations.sort_unstable();
+        destinations.windows(2).any(|pair| pair[0] == pair[1])
     })
 }
 

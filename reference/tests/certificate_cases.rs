@@ -106,7 +106,7 @@ fn every_answer_comes_up_often() {
         *counts.entry(kind).or_insert(0) += 1;
     }
     let mut expected = vec!["certificate".to_string(), "none".to_string()];
-    let refusals = (1..=12).chain([21, 22, 23, 32, 33]);
+    let refusals = (1..=14).chain([21, 22, 23, 32, 33]);
     expected.extend(refusals.map(|number| format!("refused {number}")));
     for kind in &expected {
         let is_often = counts.get(kind).is_some_and(|&count| count >= 30);

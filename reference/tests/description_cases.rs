@@ -73,8 +73,8 @@ fn every_answer_comes_up_often() {
         let kind = answer_kind(description_case(9, index));
         *counts.entry(kind).or_insert(0) += 1;
     }
-    let of_write = [1, 2, 4, 5, 6, 7, 8, 9, 10, 11, 12, 30, 31];
-    let of_describe = [1, 2, 3, 4, 5, 6, 7, 8, 9, 10, 11, 12, 30];
+    let of_write = [1, 2, 4, 5, 6, 7, 8, 9, 10, 11, 12, 13, 14, 30, 31];
+    let of_describe = [1, 2, 3, 4, 5, 6, 7, 8, 9, 10, 11, 12, 13, 14, 30];
     let mut expected = vec!["W written".to_string(), "D described".to_string()];
     expected.extend(of_write.map(|number| format!("W refused {number}")));
     expected.extend(of_describe.map(|number| format!("D refused {number}")));

@@ -76,18 +76,20 @@ fn models_a_and_b() {
 /// A description with everything that there is.
 fn full() -> (Vec<u64>, Vec<u8>, Vec<u8>) {
     let numbers = [
-        &[1, 300, 2][..],
-        // node 0: parent 1, two rule names, a ValueEdge
+        &[3, 300, 4][..],
+        // node 0: parent 1, two rule names, a ValueEdge to 1
         &[0, 1, 1, 2, 2, 4, 1, 1, 253, 3],
-        // its PatternEdge to 1 by tag 128 with two Constraints, one of them empty
-        &[1, 1, 128, 2, 0, 5],
+        // its PatternEdge to 2 by tag 128 with two Constraints, one of them empty
+        &[1, 2, 128, 2, 0, 5],
         // options: a Value, a Tag, and three calls
         &[1, 0, 8, 1, 1, 1, 2],
         &[1, 2, 3, 1, 0, 32, 2, 1, 2, 8, 1, 1, 5, 1, 2, 10, 0],
         // its signers
         &[2, 1, 0],
-        // node 1
+        // node 1, node 2, and the start, which has no parent
         &[1, 1, 0, 0, 0, 0, 0],
+        &[2, 1, 0, 0, 0, 0, 0],
+        &[3, 0, 0, 0, 0, 0],
         // symbols
         &[2, 9, 4, 128, 1],
     ]
@@ -104,7 +106,7 @@ fn full() -> (Vec<u64>, Vec<u8>, Vec<u8>) {
             0x51,
             &[integer(0x25, 1), element(0x21, &element(253, b"xyz"))].concat(),
         ),
-        pattern_edge(1, 128, &[constraint(&[]), constraint(&options)]),
+        pattern_edge(2, 128, &[constraint(&[]), constraint(&options)]),
     ];
     let parts = [
         &[rule_name("#a"), rule_name("#b_9")][..],
@@ -114,10 +116,12 @@ fn full() -> (Vec<u64>, Vec<u8>, Vec<u8>) {
     .concat();
     let model = [
         element(0x61, &VERSION.to_be_bytes()),
-        integer(0x25, 1),
+        integer(0x25, 3),
         integer(0x69, 300),
         node(0, Some(1), &parts),
         node(1, Some(0), &[]),
+        node(2, Some(0), &[]),
+        node(3, None, &[]),
         tag_symbol(9, "name"),
         tag_symbol(128, "s"),
     ]
@@ -128,7 +132,7 @@ fn full() -> (Vec<u64>, Vec<u8>, Vec<u8>) {
 #[test]
 fn a_description_with_everything() {
     let (numbers, texts, model) = full();
-    assert_eq!(verdict(&model).to_string(), "accepted 2");
+    assert_eq!(verdict(&model).to_string(), "accepted 4");
     assert_describes(&numbers, &texts, &model);
 }
 
@@ -156,12 +160,19 @@ fn integers_at_the_borders_of_the_widths() {
         1 << 32,
         u64::MAX,
     ] {
-        let numbers = [0, number, 1, 0, 1, number, 0, 0, 0, 0, 0];
+        let numbers = [
+            &[1, number, 2][..],
+            &[0, 1, number, 0, 0, 0, 0],
+            &bare_node(1),
+            &[0],
+        ];
+        let numbers = numbers.concat();
         let model = [
             element(0x61, &VERSION.to_be_bytes()),
-            integer(0x25, 0),
+            integer(0x25, 1),
             integer(0x69, number),
             node(0, Some(number), &[]),
+            node(1, None, &[]),
         ];
         assert_describes(&numbers, b"", &model.concat());
     }
@@ -201,8 +212,9 @@ fn with_text(length: usize) -> [(Vec<u64>, Vec<u8>, Vec<u8>); 4] {
 fn lengths_at_the_borders_of_the_forms() {
     for length in (200..260).chain([32_000]) {
         for (parts, texts, elements) in with_text(length) {
-            let numbers = [&[0, 0, 1, 0, 1, 0][..], &parts, &[0]].concat();
-            let expected = counted_model(0, 0, &[node(0, Some(0), &[elements])]);
+            let numbers = [&[1, 0, 2, 0, 1, 0][..], &parts, &bare_node(1), &[0]].concat();
+            let nodes = [node(0, Some(0), &[elements]), node(1, None, &[])];
+            let expected = counted_model(0, 1, &nodes);
             assert_describes(&numbers, &texts, &expected);
         }
     }
@@ -229,15 +241,16 @@ fn lists_that_are_cut_or_go_on_form_no_description() {
 #[test]
 fn kinds_and_flags_have_no_other_numbers() {
     let one_term = |kind: u64, rest: &[u64]| {
-        let head = [0, 0, 1, 0, 1, 0, 0, 0, 1, 0, 1, 1, 1, 1, kind];
-        [&head[..], rest, &[0, 0]].concat()
+        // node 0 leads to itself, and isn't the start
+        let head = [1, 0, 2, 0, 1, 0, 0, 0, 1, 0, 1, 1, 1, 1, kind];
+        [&head[..], rest, &[0], &bare_node(1), &[0]].concat()
     };
-    assert_eq!(written(&one_term(1, &[1]), b"").0, "written 35");
+    assert_eq!(written(&one_term(1, &[1]), b"").0, "written 40");
     for kind in [3, 4, 256, 1 << 32, (1 << 32) + 1, u64::MAX] {
         assert_eq!(refused(&one_term(kind, &[1]), b""), "refused 30 0");
     }
     let one_argument = |kind: u64| one_term(2, &[3, 1, kind, 1]);
-    assert_eq!(written(&one_argument(1), b"$eq").0, "written 44");
+    assert_eq!(written(&one_argument(1), b"$eq").0, "written 49");
     for kind in [0, 2, 3, (1 << 32) + 1, u64::MAX] {
         assert_eq!(refused(&one_argument(kind), b"$eq"), "refused 30 0");
     }
@@ -251,13 +264,12 @@ fn kinds_and_flags_have_no_other_numbers() {
 /// and flags make it none; nothing is made room for.
 #[test]
 fn huge_numbers() {
-    const COUNTS: [usize; 21] = [
-        2, 6, 9, 13, 16, 17, 18, 19, 23, 26, 29, 33, 36, 39, 42, 43, 49, 50, 51, 52, 53,
-    ];
-    const LENGTHS: [usize; 10] = [7, 8, 12, 22, 28, 32, 35, 41, 55, 57];
-    const KINDS_AND_FLAGS: [usize; 8] = [4, 20, 24, 27, 30, 34, 37, 40];
-    const FLAG_OF_NODE_1: usize = 47;
-    let shape = [&COUNTS[..], &LENGTHS, &KINDS_AND_FLAGS, &[FLAG_OF_NODE_1]].concat();
+    const COUNTS: [usize; 16] = [2, 6, 9, 13, 16, 17, 18, 19, 23, 26, 29, 33, 36, 39, 42, 43];
+    const COUNTS_OF_OTHER_NODES: [usize; 13] = [49, 50, 51, 52, 56, 57, 58, 59, 62, 63, 64, 65, 66];
+    const LENGTHS: [usize; 10] = [7, 8, 12, 22, 28, 32, 35, 41, 68, 70];
+    const KINDS_AND_FLAGS: [usize; 11] = [4, 20, 24, 27, 30, 34, 37, 40, 47, 54, 61];
+    let counts = [&COUNTS[..], &COUNTS_OF_OTHER_NODES].concat();
+    let shape = [&counts[..], &LENGTHS, &KINDS_AND_FLAGS].concat();
     let (numbers, texts, _) = full();
     for place in 0..numbers.len() {
         for huge in [1 << 32, numbers[place] + (1 << 32), 1 << 61, u64::MAX] {
@@ -273,9 +285,10 @@ fn huge_numbers() {
     }
 }
 
-/// One node with an edge to itself by a component of this type.
+/// A node with an edge to itself by a component of this type, and the start.
 fn with_type(kind: u64) -> Vec<u64> {
-    vec![0, 0, 1, 0, 1, 0, 0, 1, 0, kind, 1, 0, 0, 0]
+    let looping = [0, 1, 0, 0, 1, 0, kind, 1, 0, 0];
+    [&[1, 0, 2][..], &looping, &bare_node(1), &[0]].concat()
 }
 
 #[test]
@@ -347,7 +360,23 @@ fn refusals_with_their_nodes() {
     assert_eq!(model(0, &[good.clone(), no_term]), "refused 10 1");
     let two_terms = edge(1, 0, &[1, 1, 2, 1, 1, 1, 2]);
     assert_eq!(model(0, &[good.clone(), two_terms]), "refused 10 1");
-    assert_eq!(model(0, &[good, edge(1, 0, &[0])]), "refused 11 1");
+    assert_eq!(model(0, &[good.clone(), edge(1, 0, &[0])]), "refused 11 1");
+    let child = |id: u64| vec![id, 1, 1, 0, 0, 0, 0];
+    let twins = vec![1, 0, 0, 0, 2, 2, 1, 0, 2, 2, 0, 0];
+    assert_eq!(
+        model(0, &[good.clone(), twins.clone(), child(2)]),
+        "refused 14 1"
+    );
+    assert_eq!(model(2, &[good.clone(), twins, child(2)]), "refused 13 2");
+    assert_eq!(
+        model(0, &[vec![0, 1, u64::MAX, 0, 0, 0, 0]]),
+        "refused 13 0"
+    );
+    // an edge to the start by a function that isn't known
+    let calling = [0, 1, 1, 0, 0, 1, 1, 1, 1, 1, 1, 2, 6, 0, 0];
+    let start = [1, 1, 0, 0, 0, 0, 0];
+    let numbers = [&[1, 0, 2][..], &calling, &start, &[0]].concat();
+    assert_eq!(refused(&numbers, b"$other"), "refused 12 0");
 }
 
 #[test]

@@ -76,7 +76,7 @@ fn every_answer_comes_up_often() {
     for index in 0..60_000 {
         *counts.entry(answer_kind(gen::case(9, index))).or_insert(0) += 1;
     }
-    let model_refusals = 1..=12;
+    let model_refusals = 1..=14;
     let mut expected: Vec<String> = [
         "V accepted",
         "M match",

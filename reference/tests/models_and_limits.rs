@@ -102,9 +102,9 @@ fn nodes_256_and_257() {
 
 #[test]
 fn tags_128_and_129() {
-    let with_tag = |tag| model(0, &[node(0, Some(0), &[pattern_edge(0, tag, &[])])]);
+    let with_tag = |tag| model(0, &chain(2, |to| pattern_edge(to, tag, &[]), &[]));
     let (answer, words) = matched(&with_tag(128), &name("/a"));
-    assert_eq!(answer, MatchAnswer::Match { node: 0, bound: 1 });
+    assert_eq!(answer, MatchAnswer::Match { node: 1, bound: 1 });
     assert_eq!(
         (words[..381].iter().sum::<u32>(), &words[381..]),
         (0, &[2, 3, 1][..])
@@ -114,34 +114,40 @@ fn tags_128_and_129() {
     assert_eq!(judged(&with_tag((1 << 32) + 1)), "refused 5 0");
 }
 
-/// A model whose only node is left and reached by the component `a`.
-fn looping_model() -> Vec<u8> {
-    model(0, &[node(0, Some(0), &[value_edge(0, "a"), signer(0)])])
+/// A chain of 34 nodes, one more than the longest name needs, by the component `a`;
+/// the nodes at 32 and 33 sign.
+fn long_model() -> Vec<u8> {
+    let signers = [signer(32), signer(33)];
+    model(0, &chain(34, |to| value_edge(to, "a"), &signers))
 }
 
 #[test]
 fn components_32_and_33() {
     let (good, bad) = (name(&"/a".repeat(32)), name(&"/a".repeat(33)));
+    let model = long_model();
+    assert_eq!(verdict(&model), Verdict::Accepted(34));
     assert_eq!(
-        matched(&looping_model(), &good).0,
-        MatchAnswer::Match { node: 0, bound: 0 }
+        matched(&model, &good).0,
+        MatchAnswer::Match { node: 32, bound: 0 }
     );
-    assert_eq!(
-        matched(&looping_model(), &bad).0.to_string(),
-        "refused 23 0"
-    );
-    assert_eq!(
-        sign(&looping_model(), &good, &good),
-        SignAnswer::Allowed { packet: 0, key: 0 }
-    );
-    assert_eq!(
-        sign(&looping_model(), &bad, &bad).to_string(),
-        "refused 23 0"
-    );
-    assert_eq!(
-        sign(&looping_model(), &good, &bad).to_string(),
-        "refused 26 0"
-    );
+    assert_eq!(matched(&model, &bad).0.to_string(), "refused 23 0");
+    let both = SignAnswer::Allowed {
+        packet: 32,
+        key: 32,
+    };
+    assert_eq!(sign(&model, &good, &good), both);
+    assert_eq!(sign(&model, &bad, &bad).to_string(), "refused 23 0");
+    assert_eq!(sign(&model, &good, &bad).to_string(), "refused 26 0");
+}
+
+/// One node that is left and reached by the component `a` had been walked through.
+#[test]
+fn a_start_that_leads_to_itself() {
+    let looping = model(0, &[node(0, Some(0), &[value_edge(0, "a"), signer(0)])]);
+    let names = name(&"/a".repeat(32));
+    assert_eq!(judged(&looping), "refused 13 0");
+    assert_eq!(matched(&looping, &names).0.to_string(), "refused 13 0");
+    assert_eq!(sign(&looping, &names, &names).to_string(), "refused 13 0");
 }
 
 #[test]

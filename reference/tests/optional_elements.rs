@@ -59,7 +59,10 @@ fn gaps_of_model_b() {
 fn an_empty_container_has_one_gap() {
     let model = model(
         0,
-        &[node(0, Some(0), &[pattern_edge(0, 1, &[constraint(&[])])])],
+        &[
+            node(0, None, &[pattern_edge(1, 1, &[constraint(&[])])]),
+            node(1, Some(0), &[]),
+        ],
     );
     let deepest = gaps(&model)
         .unwrap()

@@ -450,25 +450,28 @@ fn nothing_is_left_of_a_branch_that_ends_early() {
     }
 }
 
-/// The same two names with equal edges: the first pair is answered, by Tags 1 and 3.
+/// The same two names by edges that are equal but for Tag and destination: the first
+/// of four pairs is answered, by Tags 1 and 3.
 #[test]
 fn of_equal_pairs_the_first_counts() {
     let edges = [
         value_edge(2, "k"),
         pattern_edge(1, 1, &[]),
-        pattern_edge(1, 2, &[]),
+        pattern_edge(4, 2, &[]),
     ];
     let model = model(
         0,
         &[
             node(0, None, &edges),
-            node(1, Some(0), &[signer(3)]),
+            node(1, Some(0), &[signer(5), signer(3)]),
             node(
                 2,
                 Some(0),
-                &[pattern_edge(3, 3, &[]), pattern_edge(3, 4, &[])],
+                &[pattern_edge(3, 3, &[]), pattern_edge(5, 4, &[])],
             ),
             node(3, Some(2), &[]),
+            node(4, Some(0), &[signer(3), signer(5)]),
+            node(5, Some(2), &[]),
         ],
     );
     assert_signed(
@@ -480,28 +483,24 @@ fn of_equal_pairs_the_first_counts() {
     );
 }
 
-/// Around a cycle each Tag is met several times, by both names.
+/// Down a chain with two Tags in turn each Tag is met several times, by both names.
 #[test]
-fn bindings_around_a_cycle() {
-    let model = model(
-        0,
-        &[
-            node(0, Some(1), &[pattern_edge(1, 1, &[])]),
-            node(1, Some(0), &[pattern_edge(0, 2, &[]), signer(0), signer(1)]),
-        ],
-    );
+fn bindings_that_come_again_and_again() {
+    let signers = [signer(4), signer(5)];
+    let edge = |to: u64| pattern_edge(to, 1 + (to - 1) % 2, &[]);
+    let model = model(0, &chain(6, edge, &signers));
     assert_signed(
         &model,
         &name("/a"),
         &name("/a/bb/a/bb"),
-        "allowed 1 0",
+        "allowed 1 4",
         &[(1, [2, 3, 1]), (2, [5, 4, 2])],
     );
     assert_signed(
         &model,
         &name("/a/bb/a"),
         &name("/a/bb/a/bb/a"),
-        "allowed 1 1",
+        "allowed 3 5",
         &[(1, [2, 3, 1]), (2, [5, 4, 1])],
     );
 }

@@ -143,23 +143,52 @@ fn what_stands_between_edges_is_not_counted() {
     assert_eq!(followed(&model, "/b", "/k", &[4, 0]), "no");
 }
 
-/// Ordinals that need both bytes of their word: 2,699 edges that never open stand
-/// between the two that are crossed.
+/// As many edges as a node may have, 255: those that never open stand between the
+/// two that are crossed.
 #[test]
 fn ordinals_of_many_edges() {
-    let mut edges = vec![value_edge(0, "k")];
-    edges.extend(vec![pattern_edge(0, 1, &[constraint(&[])]); 2_699]);
-    edges.extend([pattern_edge(0, 1, &[]), signer(0)]);
-    let model = model(0, &[node(0, Some(0), &edges)]);
+    let never = [constraint(&[])];
+    let mut edges = vec![value_edge(1, "k")];
+    edges.extend((2..255).map(|to| pattern_edge(to, 1, &never)));
+    edges.push(pattern_edge(255, 1, &[]));
+    let mut nodes = vec![node(0, None, &edges)];
+    nodes.extend((1..256).map(|id| node(id, Some(0), &[signer(255)])));
+    let model = model(0, &nodes);
+    assert_eq!(
+        signed(&model, "/k", "/a", 2),
+        with("allowed 1 255", &[0, 254])
+    );
+    assert_eq!(
+        signed(&model, "/a", "/a", 2),
+        with("allowed 255 255", &[254, 254])
+    );
+    let answer = |path: [u16; 2]| followed(&model, "/k", "/a", &path);
+    assert_eq!(answer([0, 254]), "accepted");
+    assert_eq!(answer([254, 254]), "no");
+    // the same low byte, the same byte in the other half, and no edge
+    for word in [254 + 256, 254 << 8, 254 + (1 << 15), 255, 256, 0, 127] {
+        assert_eq!(answer([0, word]), "no", "{word}");
+    }
+    assert_eq!(answer([256, 254]), "no");
+}
+
+/// So many edges that their ordinals would need both bytes are twins.
+#[test]
+fn edges_for_which_a_byte_is_too_small() {
+    let mut edges = vec![value_edge(1, "k")];
+    edges.extend(vec![pattern_edge(2, 1, &[constraint(&[])]); 2_699]);
+    edges.push(pattern_edge(3, 1, &[]));
+    let nodes = [
+        node(0, None, &edges),
+        node(1, Some(0), &[signer(3)]),
+        node(2, Some(0), &[]),
+        node(3, Some(0), &[]),
+    ];
+    let model = model(0, &nodes);
     assert!(model.len() <= 32_768);
-    let answer = signed(&model, "/k/a", "/a", 3);
-    assert_eq!(answer, with("allowed 0 0", &[0, 2_700, 2_700]));
-    let answer = |path: [u16; 3]| followed(&model, "/k/a", "/a", &path);
-    assert_eq!(answer([0, 2_700, 2_700]), "accepted");
-    // the same low byte, and the same high byte
-    assert_eq!(answer([0, 2_700 & 255, 2_700]), "no");
-    assert_eq!(answer([0, 2_700, 2_701]), "no");
-    assert_eq!(answer([2_700, 2_700, 2_700]), "no");
+    let refused = "refused 14 0";
+    assert_eq!(signed(&model, "/k", "/a", 2), with(refused, &[LENT; 2]));
+    assert_eq!(followed(&model, "/k", "/a", &[0, 2_700]), refused);
 }
 
 /// There is no other order in the file: a ValueEdge behind a PatternEdge is out of
@@ -202,23 +231,19 @@ fn packet_then_key_in_the_order_of_components() {
 
 /// A packet of three components, signed by a key of two.
 fn chains() -> Vec<u8> {
-    let never = || pattern_edge(6, 1, &[constraint(&[])]);
-    let never_from_2 = || pattern_edge(7, 1, &[constraint(&[])]);
+    let never = |to| pattern_edge(to, 1, &[constraint(&[])]);
     model(
         0,
         &[
             node(0, None, &[value_edge(1, "p"), value_edge(4, "k")]),
-            node(1, Some(0), &[never(), pattern_edge(2, 2, &[])]),
-            node(
-                2,
-                Some(1),
-                &[never_from_2(), never_from_2(), pattern_edge(3, 3, &[])],
-            ),
+            node(1, Some(0), &[never(6), pattern_edge(2, 2, &[])]),
+            node(2, Some(1), &[never(7), never(8), pattern_edge(3, 3, &[])]),
             node(3, Some(2), &[signer(5)]),
             node(4, Some(0), &[pattern_edge(5, 4, &[])]),
             node(5, Some(4), &[]),
             node(6, Some(1), &[]),
             node(7, Some(2), &[]),
+            node(8, Some(2), &[]),
         ],
     )
 }
@@ -246,8 +271,16 @@ fn refusal_34_at_the_border() {
 /// As many words as 32 and 32 components, and one fewer.
 #[test]
 fn refusal_34_for_the_longest_names() {
-    let edges = [value_edge(1, "b"), pattern_edge(0, 1, &[]), signer(0)];
-    let model = model(0, &[node(0, Some(0), &edges), node(1, Some(0), &[])]);
+    // beside each node of the chain that is walked there is one that isn't
+    let beside = |id: u64| 33 + id;
+    let mut nodes = vec![];
+    for id in 0..32 {
+        let edges = [value_edge(beside(id), "b"), pattern_edge(id + 1, 1, &[])];
+        nodes.push(node(id, id.checked_sub(1), &edges));
+    }
+    nodes.push(node(32, Some(31), &[signer(32)]));
+    nodes.extend((0..32).map(|id| node(beside(id), Some(id), &[])));
+    let model = model(0, &nodes);
     let longest = "/a".repeat(32);
     assert_eq!(
         signed(&model, &longest, &longest, 63),
@@ -255,7 +288,7 @@ fn refusal_34_for_the_longest_names() {
     );
     assert_eq!(
         signed(&model, &longest, &longest, 64),
-        with("allowed 0 0", &[1; 64])
+        with("allowed 32 32", &[1; 64])
     );
     assert_eq!(followed(&model, &longest, &longest, &[1; 64]), "accepted");
     assert_eq!(followed(&model, &longest, &longest, &[1; 63]), "no");
@@ -371,27 +404,25 @@ fn paths_of_backtracking_pairs() {
     assert_eq!(followed(&model, "/x/k", "/k/k", &[2, 0, 1, 0]), "accepted");
 }
 
-/// Three edges lead to the same node, for the packet and for the key. The path is
-/// that of the first of nine pairs; those of the others may be followed as well.
+/// Three edges lead to nodes that all sign one another. The path is that of the first
+/// of nine pairs; those of the others may be followed as well.
 #[test]
 fn the_path_is_the_first_pair_s_own() {
-    let model = model(
-        0,
-        &[
-            node(
-                0,
-                None,
-                &[
-                    value_edge(1, "a"),
-                    value_edge(1, "a"),
-                    pattern_edge(1, 1, &[]),
-                ],
-            ),
-            node(1, Some(0), &[signer(1)]),
-        ],
-    );
+    let signers = [signer(3), signer(2), signer(1)];
+    let leading_to = |destinations: [u64; 3]| {
+        let [first, second, third] = destinations;
+        let edges = [
+            value_edge(first, "a"),
+            value_edge(second, "a"),
+            pattern_edge(third, 1, &[]),
+        ];
+        let mut nodes = vec![node(0, None, &edges)];
+        nodes.extend((1..=3).map(|id| node(id, Some(0), &signers)));
+        model(0, &nodes)
+    };
+    let model = leading_to([1, 2, 3]);
     assert_eq!(signed(&model, "/a", "/a", 2), with("allowed 1 1", &[0, 0]));
-    assert_eq!(signed(&model, "/b", "/b", 2), with("allowed 1 1", &[2, 2]));
+    assert_eq!(signed(&model, "/b", "/b", 2), with("allowed 3 3", &[2, 2]));
     for packet in 0..3 {
         for key in 0..3 {
             assert_eq!(followed(&model, "/a", "/a", &[packet, key]), "accepted");
@@ -404,6 +435,13 @@ fn the_path_is_the_first_pair_s_own() {
     }
     assert_eq!(followed(&model, "/a", "/a", &[3, 0]), "no");
     assert_eq!(followed(&model, "/a", "/a", &[0, 3]), "no");
+    // not so if two of them, or all, lead to one node
+    for destinations in [[1, 1, 1], [1, 1, 3], [1, 2, 1], [1, 3, 3]] {
+        let model = leading_to(destinations);
+        let refused = "refused 14 0";
+        assert_eq!(signed(&model, "/a", "/a", 2), with(refused, &[LENT; 2]));
+        assert_eq!(followed(&model, "/a", "/a", &[0, 0]), refused);
+    }
 }
 
 /// The first pair goes by the packet's order before the key's: the packet's first
@@ -598,24 +636,41 @@ fn the_end_must_be_a_listed_signer() {
     assert_eq!(followed(&model, "", "/k", &[1]), "no");
 }
 
-/// A path may go around a cycle.
+/// The same edges come again and again down a chain. A path that would go around a
+/// loop through the start is refused with its model.
 #[test]
-fn paths_around_a_cycle() {
-    let model = model(
+fn paths_down_a_chain_and_around_a_loop() {
+    let edge = |to: u64| match to % 2 {
+        1 => pattern_edge(to, 1, &[]),
+        _ => value_edge(to, "b"),
+    };
+    let nodes = (0..6).map(|id: u64| {
+        let signers = if id % 2 == 1 { signer(5) } else { vec![] };
+        let edges = if id < 5 { edge(id + 1) } else { vec![] };
+        node(id, id.checked_sub(1), &[edges, signers])
+    });
+    let chain = model(0, &nodes.collect::<Vec<_>>());
+    let (answer, words) = signed(&chain, "/a/b/a", "/a/b/a/b/a", 9);
+    assert_eq!(
+        (answer, words),
+        with("allowed 3 5", &[0, 0, 0, 0, 0, 0, 0, 0, LENT])
+    );
+    assert_eq!(
+        followed(&chain, "/a/b/a", "/a/b/a/b/a", &[0; 8]),
+        "accepted"
+    );
+    assert_eq!(followed(&chain, "/a/b", "/a/b/a/b/a", &[0; 7]), "no");
+    let around = model(
         0,
         &[
             node(0, Some(1), &[pattern_edge(1, 1, &[])]),
             node(1, Some(0), &[value_edge(0, "b"), signer(1)]),
         ],
     );
-    let (answer, words) = signed(&model, "/a/b/a", "/a/b/a/b/a", 9);
+    let refused = "refused 13 0";
     assert_eq!(
-        (answer, words),
-        with("allowed 1 1", &[0, 0, 0, 0, 0, 0, 0, 0, LENT])
+        signed(&around, "/a/b/a", "/a/b/a/b/a", 9),
+        with(refused, &[LENT; 9])
     );
-    assert_eq!(
-        followed(&model, "/a/b/a", "/a/b/a/b/a", &[0; 8]),
-        "accepted"
-    );
-    assert_eq!(followed(&model, "/a/b", "/a/b/a/b/a", &[0; 7]), "no");
+    assert_eq!(followed(&around, "/a/b/a", "/a/b/a/b/a", &[0; 8]), refused);
 }

@@ -9,8 +9,8 @@ use lvs_reference::{match_name, verdict};
 
 type Faults = BTreeSet<u8>;
 
-/// A model of four nodes in a chain with the given faults, those that stand in
-/// a node in node 2.
+/// A model of five nodes, the last two of them children of node 2, with the given
+/// faults; those that stand in a node are in node 2, save that of the start.
 fn model_with(faults: &Faults) -> Vec<u8> {
     let has = |number: u8| faults.contains(&number);
     let mut options = vec![element(0x41, &value("a"))];
@@ -21,19 +21,23 @@ fn model_with(faults: &Faults) -> Vec<u8> {
         options.push(element(0x41, &call("$unknown", &[])));
     }
     let edge_tag = if has(5) { 129 } else { 3 };
-    let edges = [
+    let mut edges = vec![
         pattern_edge(3, edge_tag, &[element(0x43, &options.concat())]),
-        pattern_edge(if has(8) { 999 } else { 3 }, 4, &[]),
+        pattern_edge(if has(8) { 999 } else { 4 }, 4, &[]),
     ];
+    if has(14) {
+        edges.push(pattern_edge(3, 5, &[]));
+    }
     let node_2 = [edges.concat(), signer(if has(9) { 999 } else { 0 })];
     let mut nodes = vec![
-        node(0, None, &[pattern_edge(1, 1, &[])]),
+        node(0, has(13).then_some(0), &[pattern_edge(1, 1, &[])]),
         node(1, Some(0), &[pattern_edge(2, 2, &[])]),
         node(if has(6) { 3 } else { 2 }, Some(1), &node_2),
         node(3, if has(11) { None } else { Some(2) }, &[]),
+        node(4, Some(2), &[]),
     ];
     if has(4) {
-        nodes.extend((4..257).map(|id| node(id, None, &[])));
+        nodes.extend((5..257).map(|id| node(id, None, &[])));
     }
     if has(2) {
         nodes.push(hex("81 00"));
@@ -53,16 +57,16 @@ fn judged(model: &[u8]) -> String {
 
 #[test]
 fn without_a_fault_the_model_is_accepted() {
-    assert_eq!(judged(&model_with(&Faults::new())), "accepted 4");
+    assert_eq!(judged(&model_with(&Faults::new())), "accepted 5");
 }
 
 #[test]
 fn each_fault_alone() {
-    for number in 1..=12 {
+    for number in 1..=14 {
         let bytes = model_with(&Faults::from([number]));
         let index = match number {
             2 => bytes.len() - 2, // the critical element is the last one
-            6 | 8..=12 => 2,
+            6 | 8..=12 | 14 => 2,
             _ => 0,
         };
         assert_eq!(judged(&bytes), format!("refused {number} {index}"));
@@ -73,7 +77,7 @@ fn each_fault_alone() {
 /// the malformed element stands behind Version.
 #[test]
 fn of_two_faults_the_earlier_is_named() {
-    let order = [1, 3, 2, 4, 5, 6, 7, 8, 9, 10, 11, 12];
+    let order = [1, 3, 2, 4, 5, 6, 7, 8, 9, 10, 11, 12, 13, 14];
     for (rank, &first) in order.iter().enumerate() {
         for &second in &order[rank + 1..] {
             let bytes = model_with(&Faults::from([first, second]));
@@ -148,7 +152,11 @@ fn order_inside_the_model_and_its_nodes() {
     assert_eq!(with_parts("63 00"), "refused 2 14");
     assert_eq!(with_parts("63 03 57 01 00"), "refused 2 14");
     assert_eq!(with_parts("63 06 25 01 00 25 01 00"), "refused 2 17");
-    assert_eq!(with_parts("63 06 25 01 00 57 01 00"), "accepted 1");
+    assert_eq!(with_parts("63 06 25 01 00 57 01 00"), "refused 13 0");
+    assert_eq!(
+        with_parts("63 03 25 01 00 63 06 25 01 01 57 01 00"),
+        "accepted 2"
+    );
     assert_eq!(
         with_parts("63 09 25 01 00 57 01 00 57 01 00"),
         "refused 2 20"
@@ -193,25 +201,27 @@ fn tags_of_symbols_are_tested() {
 fn all_64_bits_of_a_number_count() {
     let high = 1 << 32;
     let edge = |destination| value_edge(destination, "a");
+    // node 1 is away from the start, and its own parent
+    let beside_start = |parent: u64, parts: &[Vec<u8>]| {
+        judged(&model(
+            0,
+            &[node(0, None, &[]), node(1, Some(parent), parts)],
+        ))
+    };
     assert_eq!(judged(&model(high, &[node(0, None, &[])])), "refused 7 0");
     assert_eq!(judged(&model(0, &[node(high, None, &[])])), "refused 6 0");
-    assert_eq!(
-        judged(&model(0, &[node(0, Some(0), &[edge(0)])])),
-        "accepted 1"
-    );
-    assert_eq!(
-        judged(&model(0, &[node(0, Some(0), &[edge(high)])])),
-        "refused 8 0"
-    );
-    assert_eq!(
-        judged(&model(0, &[node(0, Some(high), &[edge(0)])])),
-        "refused 11 0"
-    );
+    assert_eq!(beside_start(1, &[edge(1)]), "accepted 2");
+    assert_eq!(beside_start(1, &[edge(high + 1)]), "refused 8 1");
+    assert_eq!(beside_start(high + 1, &[edge(1)]), "refused 11 1");
     assert_eq!(
         judged(&model(0, &[node(0, None, &[signer(high)])])),
         "refused 9 0"
     );
-    assert_eq!(judged(&model(0, &[node(0, Some(high), &[])])), "accepted 1");
+    assert_eq!(beside_start(high, &[]), "accepted 2");
+    assert_eq!(
+        judged(&model(0, &[node(0, Some(high), &[])])),
+        "refused 13 0"
+    );
 }
 
 #[test]
@@ -230,10 +240,10 @@ fn integers_of_all_widths() {
     assert_eq!(with_parts("63 02 25 00"), "refused 2 14");
 }
 
-/// Model A with a PatternEdge of node 0 to itself and this in the edge.
+/// A model with a PatternEdge from node 0 to node 1, and this in the edge.
 fn with_edge_parts(parts: &[u8]) -> String {
-    let edge = element(0x53, &[integer(0x25, 0), tag(1), parts.to_vec()].concat());
-    judged(&model(0, &[node(0, Some(0), &[edge])]))
+    let edge = element(0x53, &[integer(0x25, 1), tag(1), parts.to_vec()].concat());
+    judged(&model(0, &[node(0, None, &[edge]), node(1, Some(0), &[])]))
 }
 
 fn with_option(inside: &[u8]) -> String {
@@ -246,12 +256,12 @@ fn options_calls_and_arguments() {
         let function = element(0x27, b"$eq");
         with_option(&element(0x31, &[function, element(0x33, inside)].concat()))
     };
-    assert_eq!(with_edge_parts(&element(0x43, &[])), "accepted 1");
-    assert_eq!(with_edge_parts(&element(0x41, &[])), "refused 2 28");
-    assert_eq!(with_edge_parts(&element(0x43, &value("a"))), "refused 2 30");
+    assert_eq!(with_edge_parts(&element(0x43, &[])), "accepted 2");
+    assert_eq!(with_edge_parts(&element(0x41, &[])), "refused 2 25");
+    assert_eq!(with_edge_parts(&element(0x43, &value("a"))), "refused 2 27");
     assert_eq!(with_option(&[]), "refused 10 0");
     assert_eq!(with_option(&hex("80 00")), "refused 10 0");
-    assert_eq!(with_option(&hex("81 00")), "refused 2 32");
+    assert_eq!(with_option(&hex("81 00")), "refused 2 29");
     assert_eq!(
         with_option(&[value("a"), value("a")].concat()),
         "refused 10 0"
@@ -260,25 +270,25 @@ fn options_calls_and_arguments() {
         with_option(&[tag(1), value("a"), tag(0)].concat()),
         "refused 5 0"
     );
-    assert_eq!(with_option(&element(0x43, &[])), "refused 2 32");
-    assert_eq!(with_option(&element(0x31, &[])), "refused 2 34");
-    assert_eq!(with_option(&call("eq", &[value("a")])), "refused 2 34");
-    assert_eq!(with_option(&call("$", &[])), "refused 2 34");
+    assert_eq!(with_option(&element(0x43, &[])), "refused 2 29");
+    assert_eq!(with_option(&element(0x31, &[])), "refused 2 31");
+    assert_eq!(with_option(&call("eq", &[value("a")])), "refused 2 31");
+    assert_eq!(with_option(&call("$", &[])), "refused 2 31");
     assert_eq!(with_option(&call("$eq", &[])), "refused 12 0");
-    assert_eq!(with_option(&call("$eq", &[tag(1)])), "accepted 1");
+    assert_eq!(with_option(&call("$eq", &[tag(1)])), "accepted 2");
     assert_eq!(with_option(&call("$eq", &[tag(1), tag(1)])), "refused 12 0");
     assert_eq!(with_option(&call("$eq", &[tag(129)])), "refused 5 0");
-    assert_eq!(with_option(&call("$isValidID", &[])), "accepted 1");
+    assert_eq!(with_option(&call("$isValidID", &[])), "accepted 2");
     assert_eq!(
         with_option(&call("$isValidYear", &[value("a")])),
         "refused 12 0"
     );
-    assert_eq!(argument(&[]), "refused 2 41");
-    assert_eq!(argument(&[value("a"), tag(1)].concat()), "refused 2 46");
-    assert_eq!(argument(&call("$isValidID", &[])), "refused 2 41");
+    assert_eq!(argument(&[]), "refused 2 38");
+    assert_eq!(argument(&[value("a"), tag(1)].concat()), "refused 2 43");
+    assert_eq!(argument(&call("$isValidID", &[])), "refused 2 38");
     assert_eq!(
         argument(&[hex("80 00"), value("a"), hex("20 00")].concat()),
-        "accepted 1"
+        "accepted 2"
     );
 }
 
@@ -286,19 +296,19 @@ fn options_calls_and_arguments() {
 fn values_hold_one_component_of_16_bits() {
     assert_eq!(
         with_option(&element(0x21, &hex("FD FF FF 00"))),
-        "accepted 1"
+        "accepted 2"
     );
     assert_eq!(
         with_option(&element(0x21, &hex("FE 00 01 00 00 00"))),
-        "refused 2 34"
+        "refused 2 31"
     );
-    assert_eq!(with_option(&element(0x21, &hex("21 00"))), "accepted 1");
+    assert_eq!(with_option(&element(0x21, &hex("21 00"))), "accepted 2");
     assert_eq!(
         with_option(&element(0x21, &hex("08 00 80 00"))),
-        "refused 2 36"
+        "refused 2 33"
     );
-    assert_eq!(with_option(&element(0x21, &hex("80 00"))), "accepted 1");
-    assert_eq!(with_option(&element(0x21, &[])), "refused 2 34");
+    assert_eq!(with_option(&element(0x21, &hex("80 00"))), "accepted 2");
+    assert_eq!(with_option(&element(0x21, &[])), "refused 2 31");
 }
 
 #[test]

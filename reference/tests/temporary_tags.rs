@@ -318,14 +318,11 @@ fn constraints_of_temporary_edges_count() {
 #[test]
 fn constraints_of_a_temporary_tag_at_its_second_crossing() {
     let b_or_c = [constraint(&[value("b"), value("c")])];
-    let model = counted_model(
-        0,
-        0,
-        &[node(0, Some(0), &[pattern_edge(0, 1, &b_or_c), signer(0)])],
-    );
-    assert_eq!(answer(&model, "/b/c/b"), "match 0 0");
+    let edge = |to| pattern_edge(to, 1, &b_or_c);
+    let model = counted_model(0, 0, &chain(5, edge, &[signer(2)]));
+    assert_eq!(answer(&model, "/b/c/b"), "match 3 0");
     assert_eq!(answer(&model, "/b/b/a"), "no match");
-    assert_eq!(signed(&model, "/b", "/c/c"), "allowed 0 0");
+    assert_eq!(signed(&model, "/b", "/c/c"), "allowed 1 2");
     assert_eq!(signed(&model, "/b", "/c/a"), "not allowed");
 }
 

@@ -79,34 +79,36 @@ fn all_packet_matches_are_tried() {
     assert_eq!(signed(&model, "/a", "/a"), "allowed 2 1");
 }
 
-/// Two matches of a packet end at one node; only the second one's bindings
-/// let the key through.
+/// Two matches of a packet have the same signer; only the second one's bindings
+/// let the key through. They end at two nodes: with one it would be refused.
 #[test]
-fn two_matches_at_one_node_are_two() {
+fn two_matches_with_one_signer_are_two() {
     let same_as_2 = [constraint(&[tag(2)])];
-    let model = model(
-        0,
-        &[
-            node(
-                0,
-                None,
-                &[
-                    value_edge(2, "k"),
-                    pattern_edge(1, 1, &[]),
-                    pattern_edge(1, 2, &[]),
-                ],
-            ),
-            node(1, Some(0), &[signer(3)]),
-            node(2, Some(0), &[pattern_edge(3, 3, &same_as_2)]),
-            node(3, Some(2), &[]),
-        ],
-    );
+    let leading_to = |first: u64, second: u64| {
+        let edges = [
+            value_edge(2, "k"),
+            pattern_edge(first, 1, &[]),
+            pattern_edge(second, 2, &[]),
+        ];
+        model(
+            0,
+            &[
+                node(0, None, &edges),
+                node(1, Some(0), &[signer(3)]),
+                node(2, Some(0), &[pattern_edge(3, 3, &same_as_2)]),
+                node(3, Some(2), &[]),
+                node(4, Some(0), &[signer(3)]),
+            ],
+        )
+    };
+    let model = leading_to(1, 4);
     assert_eq!(
         matched(&model, &name("/a"), 2),
         ("match 1 1".into(), vec![2, 3, 1, 0, 0, 0])
     );
-    assert_eq!(signed(&model, "/a", "/k/a"), "allowed 1 3");
+    assert_eq!(signed(&model, "/a", "/k/a"), "allowed 4 3");
     assert_eq!(signed(&model, "/a", "/k/b"), "not allowed");
+    assert_eq!(signed(&leading_to(1, 1), "/a", "/k/a"), "refused 14 0");
 }
 
 /// Third slip: the Tag is bound before its own Constraints are tried.
@@ -145,26 +147,60 @@ fn an_option_naming_the_edge_s_own_bound_tag_may_hold() {
     assert_eq!(answer(&model, "/a/b"), "no match");
 }
 
+/// Two Tags in turn down a chain, as a walk around two mutual parents had them. Each
+/// node is signed by the one behind it.
 #[test]
-fn mutual_parents_are_accepted_and_walked() {
-    let model = model(
-        0,
-        &[
-            node(0, Some(1), &[pattern_edge(1, 1, &[]), signer(1)]),
-            node(1, Some(0), &[pattern_edge(0, 2, &[]), signer(0)]),
-        ],
-    );
-    assert_eq!(verdict(&model), Verdict::Accepted(2));
+fn tags_that_come_again_down_a_chain() {
+    let nodes = (0..33).map(|id: u64| {
+        let parent = id.checked_sub(1);
+        let edge = pattern_edge(id + 1, 1 + id % 2, &[]);
+        let parts = match id < 32 {
+            true => vec![edge, signer(id + 1)],
+            false => vec![],
+        };
+        node(id, parent, &parts)
+    });
+    let model = model(0, &nodes.collect::<Vec<_>>());
+    assert_eq!(verdict(&model), Verdict::Accepted(33));
     assert_eq!(
         matched(&model, &name("/a/b/a"), 2),
-        ("match 1 2".into(), vec![2, 3, 1, 5, 3, 1])
+        ("match 3 2".into(), vec![2, 3, 1, 5, 3, 1])
     );
     assert_eq!(answer(&model, "/a/b/b"), "no match");
-    assert_eq!(answer(&model, &"/a".repeat(32)), "match 0 2");
-    assert_eq!(answer(&model, &"/a".repeat(31)), "match 1 2");
-    assert_eq!(signed(&model, "/a", "/a/b"), "allowed 1 0");
+    assert_eq!(answer(&model, &"/a".repeat(32)), "match 32 2");
+    assert_eq!(answer(&model, &"/a".repeat(31)), "match 31 2");
+    assert_eq!(signed(&model, "/a", "/a/b"), "allowed 1 2");
     assert_eq!(signed(&model, "/a", "/b/b"), "not allowed");
     assert_eq!(signed(&model, "/a", "/a/b/a"), "not allowed");
+}
+
+/// Two nodes that are each other's parent, with an edge each way, beside a chain of
+/// two; any of the four is the start.
+#[test]
+fn mutual_parents_are_accepted_away_from_the_start_only() {
+    let with_start = |start: u64| {
+        let nodes = [
+            node(0, None, &[pattern_edge(1, 1, &[]), signer(2)]),
+            node(1, Some(0), &[signer(1), signer(2), signer(3)]),
+            node(2, Some(3), &[pattern_edge(3, 1, &[]), signer(0)]),
+            node(3, Some(2), &[pattern_edge(2, 2, &[]), signer(1)]),
+        ];
+        model(start, &nodes)
+    };
+    let model = with_start(0);
+    assert_eq!(verdict(&model), Verdict::Accepted(4));
+    assert_eq!(answer(&model, "/a"), "match 1 1");
+    // no walk comes to the two, though they are listed as signers
+    assert_eq!(answer(&model, "/a/b"), "no match");
+    assert_eq!(signed(&model, "/a", "/a"), "allowed 1 1");
+    assert_eq!(signed(&model, "/a", "/a/b"), "not allowed");
+    assert_eq!(signed(&model, "/", "/"), "not allowed");
+    for start in [1, 2, 3] {
+        let refused = format!("refused 13 {start}");
+        assert_eq!(verdict(&with_start(start)).to_string(), refused);
+        assert_eq!(answer(&with_start(start), "/a/b/a"), refused);
+        assert_eq!(signed(&with_start(start), "/a", "/a"), refused);
+    }
 }
 
 #[test]

@@ -63,7 +63,7 @@ pub fn binding_case(random: &mut Random, otherwise: Sample) -> Case {
         for _ in 0..NAMES {
             let (mut packet, mut key) = names(random, &models);
             if is_met(aim, &models.source, &packet, &key) {
-                if random.chance(30) {
+                if random.chance(40) {
                     lengthen(random, aim, &models.source, &mut packet, &mut key);
                 }
                 return signing(random, sample.bytes, packet, key);
@@ -74,14 +74,18 @@ pub fn binding_case(random: &mut Random, otherwise: Sample) -> Case {
 }
 
 /// An accepted model. Where an aim takes several bindings, it often has no temporary
-/// Tags.
+/// Tags, and often the same edges several times.
 fn model_for(random: &mut Random, aim: Aim) -> Vec<u8> {
-    let all_named_percent = match aim {
-        Aim::OfKey | Aim::MetAgain => 0,
-        _ => 40,
+    let (all_named_percent, repeating_percent) = match aim {
+        Aim::OfKey | Aim::MetAgain => (0, 0),
+        Aim::MetTwice => (40, 60),
+        _ => (40, 30),
     };
     loop {
-        let mut plan = sound::plan(random);
+        let mut plan = match random.chance(repeating_percent) {
+            true => sound::repeating_plan(random),
+            false => sound::plan(random),
+        };
         if random.chance(all_named_percent) {
             let edges = plan.nodes.iter().flat_map(|node| &node.pattern_edges);
             let largest = edges.map(|edge| edge.tag).max().unwrap_or(1);

@@ -8,7 +8,7 @@ use super::damage::{
     add_optional_elements, alter_bytes, critical_kind, inside, optional_kind, other_kind, splice,
 };
 use super::descriptions::describe_sample;
-use super::faults::{add_option, bad_identifier};
+use super::faults::{add_option, bad_identifier, plant};
 use super::models::{sound_model, Sample};
 use super::plan::{ArgumentPlan, OwnedComponent, Plan, SymbolPlan, TermPlan};
 use super::random::Random;
@@ -56,7 +56,13 @@ pub fn damaged_case(seed: u64, index: u64) -> Case {
 
 /// A damaged model and the accepted one that it was made from.
 fn damaged_sample(random: &mut Random) -> Sample {
-    let (mut trees, sound) = accepted_model(random);
+    let (mut plan, mut trees, sound) = accepted_model(random);
+    if random.chance(10) {
+        // damage alone hardly ever leads to these
+        let number = *random.pick(&[13, 14]);
+        plant(random, &mut plan, number);
+        trees = plan.to_trees(random);
+    }
     if random.chance(6) {
         change_version(random, &mut trees);
     }
@@ -88,7 +94,7 @@ fn damaged_sample(random: &mut Random) -> Sample {
 }
 
 /// An accepted model that is likely to have every sort of container.
-fn accepted_model(random: &mut Random) -> (Vec<Tree>, Vec<u8>) {
+fn accepted_model(random: &mut Random) -> (Plan, Vec<Tree>, Vec<u8>) {
     loop {
         let mut plan = sound::plan(random);
         enrich(random, &mut plan);
@@ -99,7 +105,7 @@ fn accepted_model(random: &mut Random) -> (Vec<Tree>, Vec<u8>) {
         }
         let bytes = encode(&trees);
         if bytes.len() <= MAX_MODEL_BYTES {
-            return (trees, bytes);
+            return (plan, trees, bytes);
         }
     }
 }

@@ -1,6 +1,6 @@
 //! Cases for the writing and the describing call.
 
-use super::faults::plant;
+use super::faults::{plant, some_of};
 use super::list_damage::{border_integer, damage, edge_type, noise, spoil_type, BORDERS};
 use super::lists::{encoded_length, MarkedLists};
 use super::models::{sample, write, Sample};
@@ -11,13 +11,13 @@ use super::random::Random;
 use super::sound;
 use crate::cases::{Case, MAX_NUMBERS, MAX_OUTPUT_FIELD, MAX_TEXTS_FIELD};
 use crate::description::Lists;
-use crate::verdict::{load, MAX_MODEL_BYTES};
+use crate::verdict::{load, MAX_MODEL_BYTES, MAX_NODES};
 
 /// Sets these cases apart from the other ones of the same seed.
 const STREAM: u64 = 0x6465_7363_7269_6265;
 
 /// The refusal numbers of faults that a description can have.
-const FAULTS: [u8; 10] = [2, 4, 5, 6, 7, 8, 9, 10, 11, 12];
+const FAULTS: [u8; 12] = [2, 4, 5, 6, 7, 8, 9, 10, 11, 12, 13, 14];
 
 /// The case with this index.
 pub fn description_case(seed: u64, index: u64) -> Case {
@@ -71,9 +71,9 @@ enum Treatment {
 }
 
 const TREATMENTS: [(usize, Treatment); 11] = [
-    (360, Treatment::None),
-    (210, Treatment::OneFault),
-    (50, Treatment::TwoFaults),
+    (325, Treatment::None),
+    (238, Treatment::OneFault),
+    (57, Treatment::TwoFaults),
     (25, Treatment::BadType),
     (35, Treatment::Border),
     (215, Treatment::Damaged),
@@ -112,8 +112,7 @@ fn description(random: &mut Random) -> Lists {
 }
 
 fn with_faults(random: &mut Random, mut plan: Plan, count: usize) -> MarkedLists {
-    for _ in 0..count {
-        let number = *random.pick(&FAULTS);
+    for number in some_of(random, &FAULTS, count) {
         plant(random, &mut plan, number);
     }
     let mut lists = MarkedLists::of(&plan);
@@ -269,8 +268,12 @@ fn plan_of_one_text(random: &mut Random) -> Plan {
     plan
 }
 
-/// Very many of one thing, in the first of two nodes.
+/// Very many of one thing, in the first of two nodes. Many edges between the two are
+/// twins, and refused.
 fn crowded_plan(random: &mut Random) -> Plan {
+    if random.chance(25) {
+        return plan_of_wide_node(random);
+    }
     let mut plan = Plan::new();
     plan.add_node(None);
     plan.add_node(Some(0));
@@ -306,6 +309,28 @@ fn crowded_plan(random: &mut Random) -> Plan {
                 };
                 count
             ]
+        }
+    }
+    plan
+}
+
+/// As many edges as a node may have, so many of them ValueEdges.
+fn plan_of_wide_node(random: &mut Random) -> Plan {
+    let mut plan = Plan::new();
+    plan.add_node(None);
+    let by_value = *random.pick(&[0, 1, 128, MAX_NODES]);
+    while plan.nodes.len() < MAX_NODES {
+        let destination = plan.add_node(Some(0));
+        let node = &mut plan.nodes[0];
+        if node.value_edges.len() < by_value {
+            let value = OwnedComponent::generic("v");
+            node.value_edges.push(ValueEdgePlan { destination, value });
+        } else {
+            node.pattern_edges.push(PatternEdgePlan {
+                destination,
+                tag: 1,
+                constraints: Vec::new(),
+            });
         }
     }
     plan

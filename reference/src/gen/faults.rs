@@ -1,12 +1,24 @@
 //! Faults planted in the description of an accepted model.
 
 use super::plan::{
-    ArgumentPlan, OwnedComponent, PatternEdgePlan, Plan, SymbolPlan, TermPlan, ValueEdgePlan,
+    ArgumentPlan, NodePlan, OwnedComponent, PatternEdgePlan, Plan, SymbolPlan, TermPlan,
+    ValueEdgePlan,
 };
 use super::random::Random;
+use crate::verdict::MAX_NODES;
 
 /// The refusal numbers of the faults that a description can have.
-pub const NUMBERS: [u8; 11] = [2, 3, 4, 5, 6, 7, 8, 9, 10, 11, 12];
+pub const NUMBERS: [u8; 13] = [2, 3, 4, 5, 6, 7, 8, 9, 10, 11, 12, 13, 14];
+
+/// So many of these numbers. Two of tests that come one after the other are drawn more
+/// often than others, as they show the order of the tests.
+pub fn some_of(random: &mut Random, numbers: &[u8], count: usize) -> Vec<u8> {
+    if count == 2 && random.chance(30) {
+        let place = random.below(numbers.len() - 1);
+        return numbers[place..place + 2].to_vec();
+    }
+    (0..count).map(|_| *random.pick(numbers)).collect()
+}
 
 /// Plants the fault that is refused with this number, at times in two nodes.
 pub fn plant(random: &mut Random, plan: &mut Plan, number: u8) {
@@ -29,6 +41,8 @@ fn plant_once(random: &mut Random, plan: &mut Plan, number: u8) {
         10 => spoil_option(random, plan),
         11 => spoil_parent(random, plan),
         12 => spoil_call(random, plan),
+        13 => give_start_a_parent(random, plan),
+        14 => plant_twins(random, plan),
         _ => {}
     }
 }
@@ -233,6 +247,9 @@ fn spoil_option(random: &mut Random, plan: &mut Plan) {
 }
 
 fn spoil_parent(random: &mut Random, plan: &mut Plan) {
+    if random.chance(25) {
+        return add_foreign_edge(random, plan);
+    }
     let destination = pattern_edge(random, plan).destination;
     let missing = missing_id(random, plan);
     let other = random.below(plan.nodes.len()) as u64;
@@ -246,6 +263,19 @@ fn spoil_parent(random: &mut Random, plan: &mut Plan) {
         _ if node.parent == Some(other) => None,
         _ => Some(other),
     };
+}
+
+/// Adds an edge from a node that isn't the destination's parent. If the parent has
+/// one too, edges of two nodes lead to one destination.
+fn add_foreign_edge(random: &mut Random, plan: &mut Plan) {
+    let destination = random.below(plan.nodes.len());
+    let parent = plan.nodes[destination].parent;
+    let others = (0..plan.nodes.len()).filter(|&index| Some(index as u64) != parent);
+    let others: Vec<usize> = others.collect();
+    if !others.is_empty() {
+        let from = *random.pick(&others);
+        add_edge(random, &mut plan.nodes[from], destination as u64);
+    }
 }
 
 fn spoil_call(random: &mut Random, plan: &mut Plan) {
@@ -284,6 +314,132 @@ fn spoil_call(random: &mut Random, plan: &mut Plan) {
     );
 }
 
+/// Gives the start a Parent, with or without an edge that leads back, or makes a node
+/// that has one the start.
+fn give_start_a_parent(random: &mut Random, plan: &mut Plan) {
+    let start = plan.start;
+    let count = plan.nodes.len() as u64;
+    let is_destination = plan.nodes.iter().any(|node| node.leads_to(start));
+    if start >= count || is_destination {
+        return;
+    }
+    let destinations = plan.nodes[start as usize].destinations();
+    let children: Vec<u64> = destinations.filter(|&id| id < count).collect();
+    let any = random.below(plan.nodes.len()) as u64;
+    let (parent, leads_back) = match random.below(10) {
+        0 => (start, false),
+        1 => (start, true),
+        2 => (missing_id(random, plan), false),
+        3 => (any, false),
+        4 => (any, true),
+        5 | 6 => return move_start(random, plan),
+        7 if !children.is_empty() => (*random.pick(&children), false),
+        _ if !children.is_empty() => (*random.pick(&children), true),
+        _ => (any, true),
+    };
+    plan.nodes[start as usize].parent = Some(parent);
+    if leads_back {
+        add_edge(random, &mut plan.nodes[parent as usize], start);
+    }
+}
+
+/// Makes a node that has a Parent the start, if there is one.
+fn move_start(random: &mut Random, plan: &mut Plan) {
+    let ids = 0..plan.nodes.len();
+    let with_parent: Vec<usize> = ids.filter(|&id| plan.nodes[id].parent.is_some()).collect();
+    if !with_parent.is_empty() {
+        plan.start = *random.pick(&with_parent) as u64;
+    }
+}
+
+/// Adds an edge of either kind, anywhere among the others of its kind.
+fn add_edge(random: &mut Random, node: &mut NodePlan, destination: u64) {
+    if random.chance(50) {
+        add_value_edge(random, node, destination);
+    } else {
+        add_pattern_edge(random, node, destination);
+    }
+}
+
+/// Adds a ValueEdge: the first, the last or any; at times with the value of another.
+fn add_value_edge(random: &mut Random, node: &mut NodePlan, destination: u64) {
+    let edges = &mut node.value_edges;
+    let value = match edges.is_empty() || random.chance(50) {
+        true => OwnedComponent::generic(*random.pick(&["a", "b", "twin"])),
+        false => random.pick(edges).value.clone(),
+    };
+    let place = any_place(random, edges.len() + 1);
+    edges.insert(place, ValueEdgePlan { destination, value });
+}
+
+/// The same for a PatternEdge and its Tag and Constraints.
+fn add_pattern_edge(random: &mut Random, node: &mut NodePlan, destination: u64) {
+    let edges = &mut node.pattern_edges;
+    let mut edge = match edges.is_empty() || random.chance(50) {
+        true => plain_edge(random.between(1, 128) as u64),
+        false => random.pick(edges).clone(),
+    };
+    edge.destination = destination;
+    let place = any_place(random, edges.len() + 1);
+    edges.insert(place, edge);
+}
+
+/// The first of so many places, the last, or any.
+fn any_place(random: &mut Random, count: usize) -> usize {
+    match random.below(3) {
+        0 => 0,
+        1 => count - 1,
+        _ => random.below(count),
+    }
+}
+
+/// Lets two edges of a node, or more, lead to the same destination.
+fn plant_twins(random: &mut Random, plan: &mut Plan) {
+    let indexes = 0..plan.nodes.len();
+    let mut with_edges: Vec<usize> = indexes
+        .filter(|&index| plan.nodes[index].destinations().next().is_some())
+        .collect();
+    if with_edges.is_empty() {
+        with_edges.push(make_edge(random, plan));
+    }
+    let index = *random.pick(&with_edges);
+    if random.chance(20) {
+        add_leaves(random, plan, index);
+    }
+    for _ in 0..random.weighted(&[(75, 1), (15, 2), (10, 5)]) {
+        add_twin(random, &mut plan.nodes[index]);
+    }
+}
+
+/// Gives a node more children, so that there is room between twins.
+fn add_leaves(random: &mut Random, plan: &mut Plan, index: usize) {
+    let most = MAX_NODES.saturating_sub(plan.nodes.len());
+    for _ in 0..random.between(1, 40).min(most) {
+        let leaf = plan.add_node(Some(index as u64));
+        add_edge(random, &mut plan.nodes[index], leaf);
+    }
+}
+
+/// Adds an edge to where another one of the node leads, or lets one lead there that
+/// led elsewhere.
+fn add_twin(random: &mut Random, node: &mut NodePlan) {
+    let destinations: Vec<u64> = node.destinations().collect();
+    let destination = destinations[any_place(random, destinations.len())];
+    let values = node.value_edges.iter_mut();
+    let patterns = node.pattern_edges.iter_mut();
+    let mut others: Vec<&mut u64> = values
+        .map(|edge| &mut edge.destination)
+        .chain(patterns.map(|edge| &mut edge.destination))
+        .filter(|other| **other != destination)
+        .collect();
+    if others.is_empty() || random.chance(65) {
+        add_edge(random, node, destination);
+        return;
+    }
+    let place = any_place(random, others.len());
+    *others[place] = destination;
+}
+
 /// Adds an option to one of the model's edges.
 pub fn add_option(random: &mut Random, plan: &mut Plan, terms: Vec<TermPlan>) {
     let in_new_constraint = random.chance(50);
@@ -315,24 +471,41 @@ fn pattern_edge_places(plan: &Plan) -> Vec<(usize, usize)> {
         .collect()
 }
 
-/// Turns a ValueEdge into a PatternEdge; without one, adds an edge from a node
-/// to itself.
+/// Turns a ValueEdge into a PatternEdge; without one, makes an edge.
 fn make_pattern_edge(random: &mut Random, plan: &mut Plan) {
-    let new_edge = |destination| PatternEdgePlan {
-        destination,
-        tag: 1,
-        constraints: Vec::new(),
-    };
-    if let Some(node) = plan
-        .nodes
-        .iter_mut()
-        .find(|node| !node.value_edges.is_empty())
-    {
-        let edge = node.value_edges.remove(0);
-        node.pattern_edges.push(new_edge(edge.destination));
+    let mut nodes = plan.nodes.iter_mut();
+    if let Some(node) = nodes.find(|node| !node.value_edges.is_empty()) {
+        let ValueEdgePlan { destination, .. } = node.value_edges.remove(0);
+        node.pattern_edges.push(PatternEdgePlan {
+            destination,
+            ..plain_edge(1)
+        });
         return;
     }
+    make_edge(random, plan);
+}
+
+/// Adds a PatternEdge to a model without edges, from any node to one that isn't the
+/// start; answers the index of the first. The model stays an accepted one.
+fn make_edge(random: &mut Random, plan: &mut Plan) -> usize {
+    let mut ids = 0..plan.nodes.len() as u64;
+    let child = ids.find(|&id| id != plan.start);
+    let child = child.unwrap_or_else(|| plan.add_node(None));
     let index = random.below(plan.nodes.len());
-    plan.nodes[index].parent = Some(index as u64);
-    plan.nodes[index].pattern_edges.push(new_edge(index as u64));
+    plan.nodes[child as usize].parent = Some(index as u64);
+    plan.nodes[index].pattern_edges.push(PatternEdgePlan {
+        destination: child,
+        ..plain_edge(1)
+    });
+    index
+}
+
+/// A PatternEdge that is open to any component, for a destination that is yet to be
+/// named.
+fn plain_edge(tag: u64) -> PatternEdgePlan {
+    PatternEdgePlan {
+        destination: 0,
+        tag,
+        constraints: Vec::new(),
+    }
 }

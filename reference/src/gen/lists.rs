@@ -193,7 +193,7 @@ mod tests {
             let random = &mut Random::for_case(11, index);
             let mut plan = sound::plan(random);
             for _ in 0..random.below(3) {
-                let number = *random.pick(&[4, 5, 6, 7, 8, 9, 10, 11, 12]);
+                let number = *random.pick(&[4, 5, 6, 7, 8, 9, 10, 11, 12, 13, 14]);
                 plant(random, &mut plan, number);
             }
             assert_lists_and_elements_agree(random, plan);

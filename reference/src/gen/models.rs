@@ -1,7 +1,7 @@
 //! Models as bytes: accepted ones, faulty ones and damaged ones.
 
 use super::damage::{add_optional_elements, alter_bytes, alter_elements, optional_kind, splice};
-use super::faults::{plant, NUMBERS};
+use super::faults::{plant, some_of, NUMBERS};
 use super::plan::Plan;
 use super::random::Random;
 use super::sound;
@@ -30,9 +30,9 @@ enum Treatment {
 }
 
 const TREATMENTS: [(usize, Treatment); 8] = [
-    (590, Treatment::None),
-    (200, Treatment::OneFault),
-    (55, Treatment::TwoFaults),
+    (560, Treatment::None),
+    (222, Treatment::OneFault),
+    (63, Treatment::TwoFaults),
     (75, Treatment::AlteredElements),
     (40, Treatment::AlteredBytes),
     (10, Treatment::Spliced),
@@ -87,8 +87,7 @@ pub fn write(random: &mut Random, plan: &Plan) -> Vec<u8> {
 
 fn with_faults(random: &mut Random, mut plan: Plan, count: usize) -> Vec<u8> {
     let mut is_other_version = false;
-    for _ in 0..count {
-        let number = *random.pick(&NUMBERS);
+    for number in some_of(random, &NUMBERS, count) {
         is_other_version |= number == 3;
         plant(random, &mut plan, number);
     }

@@ -6,7 +6,7 @@ use super::random::Random;
 use super::sound;
 use crate::cases::MAX_NAME_FIELD;
 use crate::elements::{append_element, append_number, kind};
-use crate::model::{Argument, Model, PatternEdge, Term};
+use crate::model::{Argument, Edge, Model, PatternEdge, Term};
 use crate::names::{Component, Name, PlacedComponent, Role, MAX_COMPONENTS, MAX_NAME_BYTES};
 use crate::walk::{may_cross, Bindings};
 
@@ -162,7 +162,7 @@ impl<'m> Signing<'m> {
             return self.walker.any_walk(random, &mut trail);
         }
         let signer = *random.pick(self.signers) as usize;
-        match self.walker.path_to(random, signer) {
+        match self.walker.path_to(signer) {
             Some(path) if random.chance(92) => self.walker.walk_along(random, &path, &mut trail),
             _ => self.walker.any_walk(random, &mut trail),
         }
@@ -283,7 +283,7 @@ impl<'m> Walker<'m> {
                 .collect();
             if !aimed.is_empty() {
                 let target = *random.pick(&aimed);
-                if let Some(path) = self.path_to(random, target) {
+                if let Some(path) = self.path_to(target) {
                     return self.walk_along(random, &path, &mut trail);
                 }
             }
@@ -352,7 +352,7 @@ impl<'m> Walker<'m> {
             .collect()
     }
 
-    /// A component that crosses one of the edges between two nodes, if any does.
+    /// A component that crosses the edge between two nodes, if any does.
     fn component_between(
         &self,
         random: &mut Random,
@@ -360,26 +360,12 @@ impl<'m> Walker<'m> {
         to: usize,
         trail: &mut Trail<'m>,
     ) -> Component<'m> {
-        let node = &self.model.nodes[from];
-        let by_value = node
-            .value_edges
-            .iter()
-            .filter(|edge| edge.destination == to as u64);
-        let values: Vec<Component> = by_value.map(|edge| edge.value).collect();
-        let by_pattern = node
-            .pattern_edges
-            .iter()
-            .filter(|edge| edge.destination == to as u64);
-        let patterns: Vec<&PatternEdge> = by_pattern.collect();
-        let referring = patterns.iter().find(|edge| self.names_temporary(edge));
-        if let Some(edge) = referring.filter(|_| trail.is_as_if_bound) {
-            return self.cross(random, edge, trail);
+        let mut edges = self.model.nodes[from].edges();
+        let edge = edges.find(|edge| edge.destination() == to as u64);
+        match edge.expect("an edge leads from node to node") {
+            Edge::Value(edge) => edge.value,
+            Edge::Pattern(edge) => self.cross(random, edge, trail),
         }
-        let choice = random.below(values.len() + patterns.len());
-        if let Some(&value) = values.get(choice) {
-            return value;
-        }
-        self.cross(random, patterns[choice - values.len()], trail)
     }
 
     fn cross(
@@ -441,36 +427,21 @@ impl<'m> Walker<'m> {
         signed
             .into_iter()
             .take(6)
-            .find_map(|index| self.path_to(random, index))
+            .find_map(|index| self.path_to(index))
     }
 
-    /// The nodes from the start to this one, at times around a cycle before.
-    fn path_to(&self, random: &mut Random, target: usize) -> Option<Vec<usize>> {
+    /// The nodes from the start to this one, if it can be reached.
+    fn path_to(&self, target: usize) -> Option<Vec<usize>> {
         let start = self.model.start as usize;
-        let mut turns = if random.chance(30) {
-            random.below(4)
-        } else {
-            0
-        };
         let mut path = vec![target];
         let mut node = target;
-        while node != start || turns > 0 {
-            if node == start {
-                turns -= 1;
-            }
-            let Some(parent) = self.crossed_parent(node) else {
-                break;
-            };
-            path.push(parent);
-            node = parent;
-            if path.len() > MAX_COMPONENTS {
-                break;
-            }
+        // away from the start there may be loops
+        while node != start && path.len() <= MAX_COMPONENTS {
+            node = self.crossed_parent(node)?;
+            path.push(node);
         }
-        let first_start = path.iter().rposition(|&node| node == start)?;
-        path.truncate(first_start + 1);
         path.reverse();
-        Some(path)
+        (node == start).then_some(path)
     }
 
     /// The node's parent, if an edge leads from it to the node.

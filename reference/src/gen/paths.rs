@@ -6,7 +6,6 @@ use super::certificates::mostly_sound_model;
 use super::lent;
 use super::models::{write, Sample};
 use super::names::{restyled, Signing, Style};
-use super::plan::{NodePlan, OwnedComponent, Plan, ValueEdgePlan};
 use super::random::Random;
 use super::sound;
 use super::work::{component_count, Models};
@@ -103,45 +102,20 @@ pub fn path_case(seed: u64, index: u64) -> Case {
     finished(random, sample, inputs)
 }
 
-/// Few models are refused, and some have ordinals that need more than a byte.
+/// Few models are refused, and some have ordinals that need all bits of a byte.
 fn model_for_paths(random: &mut Random) -> Sample {
     if random.chance(90) {
         return mostly_sound_model(random);
     }
     loop {
         let mut plan = sound::plan(random);
-        widen(random, &mut plan);
+        sound::widen(random, &mut plan);
         let sound = write(random, &plan);
         if sound.len() <= MAX_MODEL_BYTES {
             let bytes = sound.clone();
             return Sample { sound, bytes };
         }
     }
-}
-
-/// Puts ValueEdges that few names cross in front of the edges of a node, mostly of
-/// the start. (PatternEdges would count as crossed by any name.)
-fn widen(random: &mut Random, plan: &mut Plan) {
-    let index = match random.chance(70) {
-        true => plan.start as usize,
-        false => random.below(plan.nodes.len()),
-    };
-    let NodePlan {
-        value_edges,
-        pattern_edges,
-        ..
-    } = &mut plan.nodes[index];
-    let by_value = value_edges.first().map(|edge| edge.destination);
-    let by_pattern = pattern_edges.first().map(|edge| edge.destination);
-    let Some(destination) = by_value.or(by_pattern) else {
-        return;
-    };
-    let count = *random.pick(&[127, 128, 252, 254, 255, 256, 257, 300, 512, 1_000]);
-    let rare = (0..count).map(|number| ValueEdgePlan {
-        destination,
-        value: OwnedComponent::generic(format!("~{number}")),
-    });
-    value_edges.splice(0..0, rare);
 }
 
 /// Names and a path for them.

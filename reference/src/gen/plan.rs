@@ -28,6 +28,19 @@ pub struct NodePlan {
     pub signers: Vec<u64>,
 }
 
+impl NodePlan {
+    /// Where the edges lead, in the order of their ordinals.
+    pub fn destinations(&self) -> impl Iterator<Item = u64> + use<'_> {
+        let by_value = self.value_edges.iter().map(|edge| edge.destination);
+        let by_pattern = self.pattern_edges.iter().map(|edge| edge.destination);
+        by_value.chain(by_pattern)
+    }
+
+    pub fn leads_to(&self, id: u64) -> bool {
+        self.destinations().any(|destination| destination == id)
+    }
+}
+
 #[derive(Clone, Debug)]
 pub struct ValueEdgePlan {
     pub destination: u64,

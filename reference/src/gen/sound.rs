@@ -1,31 +1,45 @@
 //! Descriptions of models that are accepted.
 
+use std::iter;
+
 use super::counts::named_pattern_count;
 use super::plan::{
     ArgumentPlan, ConstraintPlan, NodePlan, OwnedComponent, PatternEdgePlan, Plan, SymbolPlan,
     TermPlan, ValueEdgePlan,
 };
 use super::random::Random;
+use crate::verdict::MAX_NODES;
 
-/// How the nodes hang together.
+/// How the nodes that the start leads to hang together. They form a tree; three of
+/// the shapes are drawn as graphs with twin edges or loops, and then unrolled.
 #[derive(Clone, Copy, Debug)]
 enum Shape {
     Few,
     Chain,
     Fan,
     Tree,
-    /// Few nodes, many edges, few Tags: much going back.
+    /// Few nodes with twin edges, few Tags: unrolled, much going back.
     Dense,
-    /// Any node may be any node's parent, its own too.
+    /// Any node may be any node's parent, its own too: unrolled, the same edges
+    /// over and over.
     Cyclic,
+    /// Two nodes that are each other's parent, unrolled.
     Pair,
     /// About as many nodes as are allowed.
     Many,
+    /// A node with very many edges.
+    Wide,
     /// Roles that sign one another, as in a compiled schema.
     Hierarchy,
 }
 
-const SHAPES: [(usize, Shape); 9] = [
+impl Shape {
+    fn is_unrolled(self) -> bool {
+        matches!(self, Shape::Dense | Shape::Cyclic | Shape::Pair)
+    }
+}
+
+const SHAPES: [(usize, Shape); 10] = [
     (10, Shape::Few),
     (9, Shape::Chain),
     (7, Shape::Fan),
@@ -34,6 +48,7 @@ const SHAPES: [(usize, Shape); 9] = [
     (12, Shape::Cyclic),
     (6, Shape::Pair),
     (1, Shape::Many),
+    (1, Shape::Wide),
     (19, Shape::Hierarchy),
 ];
 
@@ -49,18 +64,41 @@ const COMPONENT_KINDS: [u64; 16] = [
 const RULE_NAMES: [&str; 5] = ["#a", "#_", "#site", "#KEY", "#a_9Z"];
 const IDENTIFIERS: [&str; 5] = ["a", "_", "author", "ID", "z_0"];
 
+/// So many nodes an unrolled graph has at most.
+const UNROLLED: [usize; 6] = [6, 10, 16, 24, 34, 40];
+
+/// How many ValueEdges a wide node gets, if there is room for as many nodes.
+const WIDE: [usize; 6] = [60, 127, 128, 200, 255, 255];
+
 /// A description that is accepted.
 pub fn plan(random: &mut Random) -> Plan {
     let shape = random.weighted(&SHAPES);
+    plan_of(random, shape)
+}
+
+/// The same, of a shape that has the same edges several times.
+pub fn repeating_plan(random: &mut Random) -> Plan {
+    let shape = *random.pick(&[Shape::Dense, Shape::Cyclic, Shape::Pair]);
+    plan_of(random, shape)
+}
+
+fn plan_of(random: &mut Random, shape: Shape) -> Plan {
     let mut plan = match shape {
         Shape::Hierarchy => hierarchy(random),
-        _ => graph(random, shape),
+        _ if shape.is_unrolled() => {
+            let graph = graph(random, shape);
+            unrolled(random, &graph)
+        }
+        _ => tree(random, shape),
     };
+    if random.chance(15) {
+        add_apart(random, &mut plan);
+    }
     // a hierarchy has temporary Tags of its own, behind the named ones
     if !matches!(shape, Shape::Hierarchy) || random.chance(40) {
         plan.named_pattern_count = named_pattern_count(random, &plan);
     }
-    if random.chance(25) {
+    if random.chance(30) {
         renumber(random, &mut plan);
     }
     add_extras(random, &mut plan);
@@ -170,6 +208,7 @@ fn of_other_kind(random: &mut Random, component: &OwnedComponent) -> OwnedCompon
     OwnedComponent::new(*random.pick(&other), component.value.clone())
 }
 
+/// Nodes with edges and signers, of which all or most are reached from the start.
 fn graph(random: &mut Random, shape: Shape) -> Plan {
     let mut plan = Plan::new();
     for parent in parents(random, shape) {
@@ -177,7 +216,10 @@ fn graph(random: &mut Random, shape: Shape) -> Plan {
     }
     let mut parameters = EdgeParameters::new(random, shape);
     add_edges(random, shape, &mut plan, &mut parameters);
-    if matches!(shape, Shape::Cyclic | Shape::Pair) || random.chance(5) {
+    if !shape.is_unrolled() && !matches!(shape, Shape::Wide) {
+        add_dead_ends(random, &mut plan, &mut parameters);
+    }
+    if matches!(shape, Shape::Cyclic | Shape::Pair) {
         plan.start = random.below(plan.nodes.len()) as u64;
     }
     if random.chance(70) {
@@ -188,6 +230,156 @@ fn graph(random: &mut Random, shape: Shape) -> Plan {
     }
     add_signers(random, &mut plan);
     plan
+}
+
+/// A graph without loops or twin edges, at times with another node than its root as
+/// the start.
+fn tree(random: &mut Random, shape: Shape) -> Plan {
+    let mut plan = graph(random, shape);
+    if matches!(shape, Shape::Wide) {
+        widen(random, &mut plan);
+    } else if random.chance(5) {
+        plan.start = random.below(plan.nodes.len()) as u64;
+        detach_start(&mut plan);
+    }
+    plan
+}
+
+/// Takes the start's Parent away, and the edge that leads to it.
+fn detach_start(plan: &mut Plan) {
+    let start = plan.start;
+    plan.nodes[start as usize].parent = None;
+    for node in &mut plan.nodes {
+        node.value_edges.retain(|edge| edge.destination != start);
+        node.pattern_edges.retain(|edge| edge.destination != start);
+    }
+}
+
+/// Gives some nodes one more child, at which nothing goes on.
+fn add_dead_ends(random: &mut Random, plan: &mut Plan, parameters: &mut EdgeParameters) {
+    for index in 0..plan.nodes.len() {
+        if plan.nodes.len() < MAX_NODES && random.chance(12) {
+            let leaf = plan.add_node(Some(index as u64));
+            add_edge(random, &mut plan.nodes[index], leaf, parameters);
+        }
+    }
+}
+
+/// The tree of the paths that lead from a graph's start, short ones first, as far
+/// as so many nodes go. Twin edges become siblings that look alike, and a loop
+/// becomes a branch on which the same edges come again.
+fn unrolled(random: &mut Random, graph: &Plan) -> Plan {
+    let most = *random.pick(&UNROLLED);
+    let mut plan = Plan::new();
+    plan.add_node(None);
+    let mut originals = vec![graph.start];
+    let mut id = 0;
+    while let Some(&original) = originals.get(id) {
+        let destinations = copy_edges(&graph.nodes[original as usize], &mut plan, id, most);
+        originals.extend(destinations);
+        id += 1;
+    }
+    for (node, &original) in plan.nodes.iter_mut().zip(&originals) {
+        let signers = graph.nodes[original as usize].signers.iter();
+        node.signers = signers
+            .flat_map(|&signer| copies_of(random, &originals, signer))
+            .collect();
+    }
+    plan
+}
+
+/// Gives a node the edges of another plan's, each to a new node, while there are
+/// fewer nodes than this; tells where the edges led there.
+fn copy_edges(original: &NodePlan, plan: &mut Plan, id: usize, most: usize) -> Vec<u64> {
+    let room = most - plan.nodes.len();
+    for edge in original.value_edges.iter().take(room) {
+        let destination = plan.add_node(Some(id as u64));
+        let value = edge.value.clone();
+        let edges = &mut plan.nodes[id].value_edges;
+        edges.push(ValueEdgePlan { destination, value });
+    }
+    let room_left = most - plan.nodes.len();
+    for edge in original.pattern_edges.iter().take(room_left) {
+        let destination = plan.add_node(Some(id as u64));
+        plan.nodes[id].pattern_edges.push(PatternEdgePlan {
+            destination,
+            ..edge.clone()
+        });
+    }
+    original.destinations().take(room).collect()
+}
+
+/// The nodes that a graph's node has become; of many, at times only some.
+fn copies_of(random: &mut Random, originals: &[u64], node: u64) -> Vec<u64> {
+    let ids = 0..originals.len();
+    let copies = ids.filter(|&id| originals[id] == node);
+    let mut copies: Vec<u64> = copies.map(|id| id as u64).collect();
+    if copies.len() > 6 && random.chance(50) {
+        random.shuffle(&mut copies);
+        copies.truncate(4);
+    }
+    copies
+}
+
+/// Adds a few nodes that the start doesn't lead to. Some of them sign, or are signed.
+fn add_apart(random: &mut Random, plan: &mut Plan) {
+    let first = plan.nodes.len();
+    let count = random.between(1, 4);
+    if first + count > MAX_NODES {
+        return;
+    }
+    for parent in parents_apart(random, first, count) {
+        plan.add_node(parent);
+    }
+    let mut parameters = EdgeParameters::new(random, Shape::Tree);
+    for child in first..first + count {
+        let parent = plan.nodes[child].parent.unwrap_or(0) as usize;
+        if parent >= first && random.chance(90) {
+            let node = &mut plan.nodes[parent];
+            add_edge(random, node, child as u64, &mut parameters);
+        }
+        let signer = random.below(first + count) as u64;
+        plan.nodes[child].signers.push(signer);
+    }
+    let signed = random.below(first);
+    plan.nodes[signed].signers.push(first as u64);
+}
+
+/// The parents of so many nodes behind others: they form a loop, down to a node that
+/// is its own parent, or a tree, or name only parents among the others.
+fn parents_apart(random: &mut Random, first: usize, count: usize) -> Vec<Option<u64>> {
+    let nth = |place: usize| Some((first + place) as u64);
+    match random.below(6) {
+        0..=2 => (0..count)
+            .map(|place| nth((place + count - 1) % count))
+            .collect(),
+        3 | 4 => {
+            let root = random.chance(50).then(|| random.below(first) as u64);
+            let below = (1..count).map(|place| nth(random.below(place)));
+            iter::once(root).chain(below).collect()
+        }
+        _ => (0..count)
+            .map(|_| Some(random.below(first) as u64))
+            .collect(),
+    }
+}
+
+/// Puts ValueEdges that few names cross, to new nodes, in front of the edges of a
+/// node, mostly of the start. (PatternEdges would count as crossed by any name.)
+pub fn widen(random: &mut Random, plan: &mut Plan) {
+    let index = match random.chance(70) {
+        true => plan.start as usize,
+        false => random.below(plan.nodes.len()),
+    };
+    let count = *random.pick(&WIDE);
+    let room = MAX_NODES.saturating_sub(plan.nodes.len());
+    let rare: Vec<ValueEdgePlan> = (0..count.min(room))
+        .map(|number| ValueEdgePlan {
+            destination: plan.add_node(Some(index as u64)),
+            value: OwnedComponent::generic(format!("~{number}")),
+        })
+        .collect();
+    plan.nodes[index].value_edges.splice(0..0, rare);
 }
 
 /// Lets most options and arguments that name a Tag name one that is crossed on
@@ -279,6 +471,7 @@ fn parents(random: &mut Random, shape: Shape) -> Vec<Option<u64>> {
         Shape::Chain => *random.pick(&[2, 3, 4, 6, 10, 31, 32, 33, 34, 35]),
         Shape::Fan => random.between(2, 30),
         Shape::Tree => random.between(3, 20),
+        Shape::Wide => random.between(1, 6),
         Shape::Dense => random.between(4, 12),
         Shape::Cyclic => random.between(1, 8),
         Shape::Pair => return vec![Some(1), Some(0)],
@@ -298,7 +491,7 @@ fn parent(random: &mut Random, shape: Shape, index: usize, count: usize) -> Opti
     }
     Some(match shape {
         Shape::Chain => index - 1,
-        Shape::Fan => 0,
+        Shape::Fan | Shape::Wide => 0,
         Shape::Dense => random.between(index.saturating_sub(3), index - 1),
         _ => random.below(index),
     } as u64)
@@ -324,11 +517,14 @@ fn add_edges(random: &mut Random, shape: Shape, plan: &mut Plan, parameters: &mu
     }
 }
 
+/// How many edges lead from a parent to its child; only graphs that are unrolled
+/// may have several.
 fn edge_count(random: &mut Random, shape: Shape) -> usize {
     match shape {
         Shape::Dense => random.weighted(&[(50, 1), (35, 2), (15, 3)]),
         Shape::Pair => random.weighted(&[(60, 1), (30, 2), (10, 3)]),
-        _ => random.weighted(&[(3, 0), (82, 1), (12, 2), (3, 3)]),
+        Shape::Cyclic => random.weighted(&[(3, 0), (82, 1), (12, 2), (3, 3)]),
+        _ => random.weighted(&[(3, 0), (97, 1)]),
     }
 }
 
@@ -672,16 +868,19 @@ fn symbol(random: &mut Random) -> SymbolPlan {
     }
 }
 
-/// Gives a node that no edge leads to one of these numbers as its Parent.
+/// Gives a node that no edge leads to, other than the start, one of these numbers as
+/// its Parent; adds such a node if there is none.
 pub fn set_unused_parent(random: &mut Random, plan: &mut Plan, parents: &[u64]) {
-    let index = random.below(plan.nodes.len());
-    let is_destination = |id: u64| {
-        plan.nodes.iter().any(|node| {
-            node.value_edges.iter().any(|edge| edge.destination == id)
-                || node.pattern_edges.iter().any(|edge| edge.destination == id)
-        })
-    };
-    if !is_destination(index as u64) {
-        plan.nodes[index].parent = Some(*random.pick(parents));
+    let is_destination = |id: u64| plan.nodes.iter().any(|node| node.leads_to(id));
+    let ids = 0..plan.nodes.len() as u64;
+    let mut unused: Vec<u64> = ids
+        .filter(|&id| id != plan.start && !is_destination(id))
+        .collect();
+    if unused.is_empty() && plan.nodes.len() < MAX_NODES {
+        unused.push(plan.add_node(None));
+    }
+    if !unused.is_empty() {
+        let id = *random.pick(&unused);
+        plan.nodes[id as usize].parent = Some(*random.pick(parents));
     }
 }

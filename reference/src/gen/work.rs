@@ -1,15 +1,17 @@
 //! How much a walk may have to look at, so that no case takes long.
 //!
 //! Counts every path that equal ValueEdges and any PatternEdges allow; a walk
-//! looks at no more, whatever its Tags and Constraints shut. Faulty names and
-//! models are counted as if they were sound, so that a checker that refuses too
-//! little comes to an end as well.
+//! looks at no more, whatever its Tags and Constraints shut. In an accepted model
+//! that is no more than its edges, once for each name that is walked. But faulty
+//! names and models are counted as if they were sound, so that a checker that
+//! refuses too little comes to an end as well: twin edges double the paths, and
+//! on a loop through the start they do so at each turn.
 
 use super::models::Sample;
 use crate::elements::{append_element, kind};
-use crate::model::Model;
+use crate::model::{Model, Node};
 use crate::names::Component;
-use crate::verdict::load;
+use crate::verdict::{load, load_readable};
 
 /// Components behind these are not counted.
 const MAX_COUNTED: usize = 40;
@@ -18,7 +20,7 @@ const MAX_COUNTED: usize = 40;
 pub struct Models<'m> {
     /// The sound model that the case's own was made from.
     pub source: Model<'m>,
-    /// The case's own, if it is another one that is accepted.
+    /// The case's own, if it is another one that can be walked, refused or not.
     altered: Option<Model<'m>>,
 }
 
@@ -28,7 +30,7 @@ impl<'m> Models<'m> {
         let is_altered = bytes != sound;
         Models {
             source: load(sound).expect("sound models are accepted"),
-            altered: is_altered.then(|| load(bytes).ok()).flatten(),
+            altered: is_altered.then(|| load_walkable(bytes)).flatten(),
         }
     }
 
@@ -86,6 +88,17 @@ impl<'m> Models<'m> {
             *longer = shortened(longer);
         }
     }
+}
+
+/// A model in which a walk is defined, whatever else is wrong with it.
+fn load_walkable(bytes: &[u8]) -> Option<Model<'_>> {
+    load_readable(bytes).ok().filter(is_walkable)
+}
+
+fn is_walkable(model: &Model) -> bool {
+    let is_node = |id: u64| id < model.nodes.len() as u64;
+    let mut destinations = model.nodes.iter().flat_map(Node::destinations);
+    is_node(model.start) && destinations.all(is_node)
 }
 
 /// A sound name with the first half of the components.

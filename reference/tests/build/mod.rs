@@ -150,6 +150,19 @@ pub fn counted_model(named: u64, start: u64, parts: &[Vec<u8>]) -> Vec<u8> {
     [head(VERSION, start, named), parts.concat()].concat()
 }
 
+/// Nodes in a chain, as many as this, whose edges are made by the number of the
+/// node where each leads; every node but the start has these parts too.
+pub fn chain(count: u64, edge: impl Fn(u64) -> Vec<u8>, parts: &[Vec<u8>]) -> Vec<Vec<u8>> {
+    let with_edge = |id: u64, others: &[Vec<u8>]| {
+        let edge = if id + 1 < count { edge(id + 1) } else { vec![] };
+        [&[edge][..], others].concat()
+    };
+    let behind = (1..count).map(|id| node(id, Some(id - 1), &with_edge(id, parts)));
+    let mut nodes = vec![node(0, None, &with_edge(0, &[]))];
+    nodes.extend(behind);
+    nodes
+}
+
 /// Nodes as rules are added to them, as a compiler of LVS text does.
 #[derive(Default)]
 pub struct Schema {
