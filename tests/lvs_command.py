@@ -4,12 +4,13 @@
 usage: lvs_command.py
 
 Every subcommand, every exit status, every refusal and every error text; the examples in README and in the help texts; what is said of
-malformed models, of bindings and of paths; texts of models, shown and built again; and builds, in a copy of tools/ with another rt. Models
-are made with tests/cases/build.py.
+malformed models, of bindings and of paths; trees of any models; texts of models, shown and built again; and builds, in a copy of tools/
+with another rt. Models are made with tests/cases/build.py.
 """
 import collections
 import concurrent.futures
 import functools
+import itertools
 import json
 import os
 import pathlib
@@ -34,8 +35,9 @@ import uris  # noqa: E402
 from bench import A, B  # noqa: E402
 from build import *  # noqa: E402, F403
 from certificates import fields  # noqa: E402
-from gaps import FULL  # noqa: E402
+from gaps import FULL, parts  # noqa: E402
 from lvs_command import answers, description, driver, errors, follow as following, malformed, path as paths, refusals, text as text_form  # noqa: E402
+from lvs_command import tree as trees  # noqa: E402
 from lvs_command.model import Labels  # noqa: E402
 from random_models import canonical, random_models  # noqa: E402
 from run_cases import TABLES, table  # noqa: E402
@@ -64,7 +66,14 @@ NAMED = model(
     patterns=2,
     behind=symbol(1, "user") + element(SYMBOL, tag(2), element(0x80, b"z"), element(IDENTIFIER, b"part")) + symbol(3, "part") + symbol(1, "again"),
 )
-CYCLE = model(node(0, parent(1), value_edge(1, "a")), node(1, parent(0), value_edge(0, "b")))
+# two nodes that are each other's parent and one that is its own, none of them the start or reachable from it
+CYCLE = model(
+    node(0, value_edge(1, "c")),
+    node(1, parent(0)),
+    node(2, parent(3), value_edge(3, "a")),
+    node(3, parent(2), value_edge(2, "b")),
+    node(4, parent(4), pattern_edge(4, 1)),
+)
 ANY = tree([(1,), (2,), (3,), (4,), (5,), (6,), (7,), ()])  # seven components, each bound
 # Tags 2 to 5 are temporary, on edges and in terms, with symbols of every kind and without
 TEMPORARY = tree(
@@ -88,10 +97,16 @@ def chain(count):
     return model(*(node(i, *([parent(i - 1)] if i else []), *([value_edge(i + 1, "p")] if i + 1 < count else [])) for i in range(count)))
 
 
+def branching(*more):
+    """Node 1 has an edge each to nodes 2 and 3, and these."""
+    edges = value_edge(2, "a"), value_edge(3, "b"), *more
+    return model(node(0, value_edge(1, "a")), node(1, parent(0), *edges), node(2, parent(1)), node(3, parent(1), signer(3)))
+
+
 def many_numbers(options):
     """A model of 256 nodes and one edge with a constraint of so many options. An option of a component of no bytes is 4 numbers in 6 bytes."""
     many = [option(value(component("")))] * options
-    return model(node(0, parent(0), pattern_edge(0, 1, constraint(*many))), *map(node, range(1, 256)))
+    return model(node(0, pattern_edge(1, 1, constraint(*many))), node(1, parent(0)), *map(node, range(2, 256)))
 
 
 # its description has 4 numbers, 6 for each node, 1 for the Parent, 3 for the edge, 1 for the constraint and 4 for each option; an accepted
@@ -147,7 +162,12 @@ FILES = {
     "r10.lvs": model(node(0, pattern_edge(1, 1, constraint(option(), option(value("a"), tag(2))))), node(1, parent(0))),
     "r11.lvs": model(node(0, value_edge(1, "a"), value_edge(2, "b")), node(1, parent(2)), node(2)),
     "r12.lvs": model(node(0), node(1, pattern_edge(2, 1, constraint(option(call("$no"))))), node(2, parent(1))),
+    "r13.lvs": model(node(0, parent(1), value_edge(1, "a")), node(1, parent(0), value_edge(0, "b")), start=1),
+    "r13-far.lvs": model(node(0, parent(9), value_edge(1, "a")), node(1, parent(0))),
+    "r14.lvs": branching(pattern_edge(2, 1)),
+    "branching.lvs": branching(),
 }
+MODEL_REFUSALS = range(1, 15)
 
 NOT_A_NAME = "malformed: it is not one name element with nothing but components in it"
 REFUSED = {
@@ -163,6 +183,8 @@ REFUSED = {
     10: "refused 10 at node 0: this node has a constraint option that is not exactly one value, tag or function call",
     11: "refused 11 at node 0: this node has an edge to a node whose Parent is missing or names another node",
     12: "refused 12 at node 1: this node calls an unknown function, or a known one with a wrong number of arguments",
+    13: "refused 13 at node 1: this node is the start and has a Parent",
+    14: "refused 14 at node 1: this node has two edges to the same node",
     21: "refused 21: the packet name is longer than 1,024 bytes",
     22: f"refused 22: the packet name is {NOT_A_NAME}",
     23: "refused 23: the packet name has more than 32 components",
@@ -194,7 +216,7 @@ def judge_runs():
     yield Run(["judge", "longest.lvs"], 0, "accepted: 1 node\n")
     yield Run(["judge", "-"], 0, "accepted: 2 nodes\n", given=B)
     yield Run(["judge", "--json", "example.lvs"], 0, '{"answer": "accepted", "nodes": 29}\n')
-    for number in range(1, 13):
+    for number in MODEL_REFUSALS:
         if number != refusals.MALFORMED:
             yield Run(["judge", f"r{number}.lvs"], 2, REFUSED[number] + "\n")
     for file in ("r1-driver.lvs", "r1-above.lvs", "r1-far.lvs", "/dev/zero"):
@@ -202,6 +224,34 @@ def judge_runs():
     for number, at in (3, 0), (9, 1):
         meaning = REFUSED[number].partition(": ")[2]
         yield Run(["judge", "--json", f"r{number}.lvs"], 2, f'{{"answer": "refused", "number": {number}, "node": {at}, "meaning": "{meaning}"}}\n')
+    yield Run(["judge", "cycle.lvs"], 0, "accepted: 5 nodes\n")
+    yield Run(["judge", "r13-far.lvs"], 2, refused_words(13, 0) + "\n")
+
+
+def no_tree_runs():
+    """A loop through the start, and two edges to the same node: each command refuses them, whatever the names, the path and the list are."""
+    for number in 13, 14:
+        file, of = f"r{number}.lvs", {"answer": "refused", "number": number, "node": 1, "meaning": REFUSED[number].partition(": ")[2]}
+        for words in (
+            *(["judge", file], ["show", file], ["match", file, "/"], ["match", file, "/a/b"], ["match", file, "0x"]),
+            *(["sign", file, "/", "/"], ["sign", file, "/a/b", "0x"], ["sign", "--path", file, "/a/b", "/a/b"], ["sign", "--bindings", file, "-"]),
+            *(["follow", file, "/", "/", "none"], ["follow", file, "/a/b", "/a/b", "0,0,0,0"], ["follow", file, "0x", "/", "0"]),
+            *(["suggest", file, "/a/b", "certificates.txt"], ["suggest", file, "0x", "/dev/null"]),
+        ):
+            yield Run(words, 2, REFUSED[number] + "\n", given=b"/a/b /a/b\n")
+            yield Run([words[0], "--json", *words[1:]], 2, json.dumps(of) + "\n", given=b"/a/b /a/b\n")
+    # with one edge each there is an answer
+    yield Run(["follow", "branching.lvs", "/a/b", "/a/b", "0,1,0,1"], 0, "accepted\n")
+    yield Run(["sign", "--path", "branching.lvs", "/a/b", "/a/b"], 0, """\
+allowed: packet at node 3, key at node 3
+  packet:
+    node 0, edge 0, value: a -> node 1
+    node 1, edge 1, value: b -> node 3
+  key:
+    node 0, edge 0, value: a -> node 1
+    node 1, edge 1, value: b -> node 3
+  path 0,1,0,1
+""")
 
 
 def malformed_runs():
@@ -580,7 +630,7 @@ def follow_runs():
 
 def refused_path_runs():
     """Model and names are tested as ever, and before the path."""
-    for number in 1, 7, 12:
+    for number in 1, 7, 12, 13, 14:
         yield Run(["follow", f"r{number}.lvs", "0x", "0x", "0,0"], 2, REFUSED[number] + "\n")
     yield Run(["follow", "r1-far.lvs", "/", "/", "none"], 2, REFUSED[1] + "\n")
     for i, (text, number) in enumerate(bad_names()):
@@ -681,7 +731,7 @@ def refused_list_runs():
     reason = {"answer": "refused", "number": 26, "node": 0, "meaning": why}
     of = {"answer": "refused", "number": 32, "index": 1, "meaning": meaning, "name": parts, "line": 3, "reason": reason}
     yield suggest_run(["/a", "", parts], 2, json.dumps(of) + "\n", more=["--json"])
-    for number in range(1, 13):
+    for number in MODEL_REFUSALS:
         for lines in ["/a"], []:
             yield suggest_run(lines, 2, REFUSED[number] + "\n", file=f"r{number}.lvs")
     yield suggest_run(["/a"], 2, REFUSED[1] + "\n", file="r1-far.lvs", packet="0x")
@@ -819,11 +869,16 @@ node 0 (start)
     _ (tag 4) & {$eq(_ (tag 5)) | "y"} -> node 5
 """)
     yield Run(["tree", "cycle.lvs"], 0, """\
-accepted: 2 nodes
+accepted: 5 nodes
 start at node 0, 0 named patterns
-node 0 (start, parent 1)
-  "a" -> node 1
-    "b" -> node 0 (above)
+node 0 (start)
+  "c" -> node 1
+not reachable from the start:
+node 2 (parent 3)
+  "a" -> node 3
+    "b" -> node 2 (above)
+node 4 (parent 4)
+  _ (tag 1) -> node 4 (above)
 """)
     yield Run(["tree", "-"], 0, "accepted: 1 node\nstart at node 0, 0 named patterns\nnode 0 (start)\n", given=A)
     skipping = SKIPPED + A
@@ -847,20 +902,47 @@ node 0 (start)
         11: '3 nodes, start at node 0, 0 named patterns\nnode 0 (start)  <- refused 11\n  "a" -> node 1 (parent 2)\n  "b" -> node 2 (no parent)\n',
         12: "3 nodes, start at node 0, 0 named patterns\nnode 0 (start)\nnot reachable from the start:\n"
             "node 1  <- refused 12\n  _ (tag 1) & {$no()} -> node 2\n",
+        13: "2 nodes, start at node 1, 0 named patterns\nnode 1 (start, parent 0)  <- refused 13\n"
+            '  "b" -> node 0\n    "a" -> node 1 (above)\n',
+        14: '4 nodes, start at node 0, 0 named patterns\nnode 0 (start)\n  "a" -> node 1  <- refused 14\n'
+            '    "a" -> node 2\n    "b" -> node 3, signed by node 3\n    _ (tag 1) -> node 2 (above)\n',
     }.items():
         yield Run(["tree", f"r{number}.lvs"], 2, f"{REFUSED[number]}\n{rest}")
+    rest = "2 nodes, start at node 0, 0 named patterns\nnode 0 (start, parent 9)  <- refused 13\n"
+    yield Run(["tree", "r13-far.lvs"], 2, f'{refused_words(13, 0)}\n{rest}  "a" -> node 1\n')
+    for number, objects in (13, loop_objects()), (14, twin_objects()):
+        of = {"answer": "refused", "number": number, "node": 1, "meaning": REFUSED[number].partition(": ")[2]}
+        yield Run(["tree", "--json", f"r{number}.lvs"], 2, "".join(json.dumps(one) + "\n" for one in (of, *objects)))
     lines = "".join("  " * i + f'"p" -> node {i}\n' for i in range(1, 1500))
     yield Run(["tree", "deep.lvs"], 2, f"{REFUSED[4]}\n1500 nodes, start at node 0, 0 named patterns\nnode 0 (start)\n{lines}")
     yield Run(["tree", "--json", "named.lvs"], 0, "".join(json.dumps(of) + "\n" for of in named_objects()))
 
 
+def shown(i, up, rules, edges=(), signers=(), optional=()):
+    """A node, as `lvs tree --json` prints it."""
+    return {"node": i, "node_id": i, "parent": up, "rules": rules, "edges": edges, "signers": signers, "optional": optional}
+
+
+def loop_objects():
+    """r13.lvs, below its refusal."""
+    yield {"start": 1, "named_patterns": 0, "symbols": [], "optional": []}
+    yield shown(0, 1, [], [{"to": 1, "value": "a", "optional": []}])
+    yield shown(1, 0, [], [{"to": 0, "value": "b", "optional": []}])
+
+
+def twin_objects():
+    """r14.lvs, below its refusal."""
+    yield {"start": 0, "named_patterns": 0, "symbols": [], "optional": []}
+    yield shown(0, None, [], [{"to": 1, "value": "a", "optional": []}])
+    edges = [{"to": 2, "value": "a", "optional": []}, {"to": 3, "value": "b", "optional": []}]
+    yield shown(1, 0, [], [*edges, {"to": 2, "tag": 1, "temporary": True, "constraints": [], "optional": []}])
+    yield shown(2, 1, [])
+    yield shown(3, 1, [], [], [3])
+
+
 def named_objects():
     """named.lvs, as `lvs tree --json` prints it."""
     abc = {"type": 128, "bytes": 3}
-
-    def shown(i, up, rules, edges=(), signers=(), optional=()):
-        return {"node": i, "node_id": i, "parent": up, "rules": rules, "edges": edges, "signers": signers, "optional": optional}
-
     yield {"answer": "accepted", "nodes": 7}
     symbols = [{"tag": tag, "symbol": text} for tag, text in ((1, "user"), (2, "part"), (3, "part"), (1, "again"))]
     yield {"start": 0, "named_patterns": 2, "symbols": symbols, "optional": [{"in": "TagSymbol", "type": 128, "bytes": 1}]}
@@ -938,21 +1020,26 @@ def show_runs():
     numbers += [4, 1, 2, 0, 0, 0, 1, 3, 5, 0, 0, 1, 6, 8, 1, 0, 0, 6, 1, 5, 0, 0, 0, 0, 4, 1, 4, 2, 4, 3, 4, 1, 5]
     yield Run(["show", "--json", "named.lvs"], 0, json.dumps({"answer": "described", "numbers": numbers, "texts": texts_of.encode().hex()}) + "\n")
     yield Run(["show", "-"], 2, refused_words(2, 0) + "\n")
-    for number in range(1, 13):
+    for number in MODEL_REFUSALS:
         yield Run(["show", f"r{number}.lvs"], 2, REFUSED[number] + "\n")
     for file in ("r1-driver.lvs", "r1-above.lvs", "r1-far.lvs"):
         yield Run(["show", file], 2, REFUSED[1] + "\n")
     meaning = REFUSED[9].partition(": ")[2]
     yield Run(["show", "--json", "r9.lvs"], 2, f'{{"answer": "refused", "number": 9, "node": 1, "meaning": "{meaning}"}}\n')
     options = "      option value ...\n" * FITTING
-    nodes = "".join(f"\nnode {i}\n" for i in range(1, 256))
-    yield Run(["show", "fitting.lvs"], 0, f"start 0\npatterns 0\n\nnode 0\n  parent 0\n  edge tag 1 to 0\n    constraint\n{options}{nodes}")
+    nodes = "".join(f"\nnode {i}\n" for i in range(2, 256))
+    text = f"start 0\npatterns 0\n\nnode 0\n  edge tag 1 to 1\n    constraint\n{options}\nnode 1\n  parent 0\n{nodes}"
+    yield Run(["show", "fitting.lvs"], 0, text)
     if driver.NUMBERS < 22516:
         most = f"its description has more than {driver.NUMBERS:,} numbers, which is the most that lvs_cases takes"
         yield Run(["show", "numbers.lvs"], 3, "", f"lvs: the model is accepted, but {most}\n")
 
 
 # texts that are built
+
+
+LOOP_TEXT = "start 1\npatterns 0\nnode 0\nparent 1\nedge value a to 1\nnode 1\nparent 0\nedge value b to 0\n"
+TWINS_TEXT = B_TEXT.replace("  edge tag 1 to 1\n", "  edge tag 1 to 1\n  edge value a to 1\n")
 
 
 def refused_words(number, node):
@@ -989,6 +1076,12 @@ def check_texts(folder):
     meaning, places = REFUSED[9].partition(": ")[2], '[{"line": 4, "text": "node 0"}]'
     refused = f'{{"answer": "refused", "number": 9, "node": 0, "meaning": "{meaning}", "places": {places}}}\n'
     asked.append(("refused, --json", A_TEXT + "signer 9", ["--json"], 2, refused, "", None))
+    for number, text, at, line in (13, LOOP_TEXT, 1, 6), (14, TWINS_TEXT, 0, 4):
+        out = f"{refused_words(number, at)}\n  standard input:{line}: node {at}\n"
+        asked.append((f"refusal {number} of a text", text, [], 2, out, "", None))
+        of = {"answer": "refused", "number": number, "node": at, "meaning": REFUSED[number].partition(": ")[2]}
+        out = json.dumps({**of, "places": [{"line": line, "text": f"node {at}"}]}) + "\n"
+        asked.append((f"refusal {number} of a text, --json", text, ["--json"], 2, out, "", None))
     signers = driver.NUMBERS + 1 - 10  # bench A's description has 10 numbers
     most = f"lvs: the description has {driver.NUMBERS + 1:,} numbers, and {driver.NUMBERS:,} is the most that lvs_cases takes\n"
     asked.append(("too many numbers", A_TEXT + "signer 0\n" * signers, [], 3, "", most, None))
@@ -1020,10 +1113,9 @@ def check_files(folder):
     """The files of `lvs build`: a text from a file; the model replaced as a whole, or not at all, and nothing left beside it."""
     place = folder / "files"
     place.mkdir()
-    good, wrong, bad = place / "good.txt", place / "wrong.txt", place / "bad.txt"
-    good.write_text(B_TEXT)
-    wrong.write_text(A_TEXT + "edge value a to x\n")
-    bad.write_text(A_TEXT + "\nsigner 1\n")
+    wrong, bad = A_TEXT + "edge value a to x\n", A_TEXT + "\nsigner 1\n"
+    for file, text in ("good", B_TEXT), ("wrong", wrong), ("bad", bad), ("loop", LOOP_TEXT), ("twins", TWINS_TEXT):
+        (place / f"{file}.txt").write_text(text)
     (place / "old.lvs").write_bytes(A)
     (place / "old.lvs").chmod(0o640)
     (place / "link.lvs").symlink_to("old.lvs")
@@ -1034,6 +1126,8 @@ def check_files(folder):
     for words, ended in (
         (["wrong.txt", "old.lvs"], (3, "", "wrong.txt:5: expected a node index after 'to', found 'x'\n")),
         (["bad.txt", "old.lvs"], (2, f"{refused_words(9, 0)}\n  bad.txt:4: node 0\n", "")),
+        (["loop.txt", "old.lvs"], (2, f"{refused_words(13, 1)}\n  loop.txt:6: node 1\n", "")),
+        (["twins.txt", "old.lvs"], (2, f"{refused_words(14, 0)}\n  twins.txt:4: node 0\n", "")),
         (["none.txt", "old.lvs"], (3, "", "lvs: cannot read the text 'none.txt': No such file or directory\n")),
         (["folder", "old.lvs"], (3, "", "lvs: cannot read the text 'folder': Is a directory\n")),
         (["old.lvs", "link.lvs"], (3, "", f"lvs build: TEXT and MODEL are the same file {see}\n")),
@@ -1077,17 +1171,23 @@ def all_models():
     values = [b"", b".", b"...", bytes(range(256)), bytes(32), bytes(8), bytes(9), b"\0\1", b"//", b"# x", b"to", b"a,b(c)"]
     values += (bytes([i]) for i in range(256))
     for typ in (1, 2, 7, 8, 50, 52, 54, 56, 58, 252, 253, 65535):
-        of = [component(one, typ) for one in values]
-        options = constraint(*(option(value(one)) for one in of), *(option(call("$eq", value(one))) for one in of))
-        yield model(node(0, parent(0), *(value_edge(0, one) for one in of), pattern_edge(0, 1, options)))
+        for of in ([component(one, typ) for one in half] for half in (values[::2], values[1::2])):
+            options = constraint(*(option(value(one)) for one in of), *(option(call("$eq", value(one))) for one in of))
+            edges = [*(value_edge(i, one) for i, one in enumerate(of, 1)), pattern_edge(len(of) + 1, 1, options)]
+            yield model(node(0, *edges), *(node(i, parent(0)) for i in range(1, len(edges) + 1)))
     yield from random_models(500)
+
+
+@functools.lru_cache
+def judged_models():
+    """(model, its verdict) of each of these."""
+    models = list(dict.fromkeys(all_models()))
+    return list(zip(models, driver.ask(list(map(driver.verdict_case, models)))))
 
 
 def check_round_trips():
     """Each accepted model: shown, read, built and shown again, without a process for each."""
-    models = list(dict.fromkeys(all_models()))
-    verdicts = driver.ask([driver.verdict_case(of) for of in models])
-    models = [of for of, verdict in zip(models, verdicts) if isinstance(verdict, answers.Accepted)]
+    models = [of for of, verdict in judged_models() if isinstance(verdict, answers.Accepted)]
     check("how many models there are", len(models) >= 650, True)
     shown, lists = [], []
     for of, answer in zip(models, driver.ask(list(map(driver.describe_case, models)))):
@@ -1102,6 +1202,115 @@ def check_round_trips():
     for of, text, one, described in zip(models, shown, built, again):
         check(f"{of.hex()}, built"[:100], one, answers.Written(canonical(of)))
         check(f"{of.hex()}, shown again"[:100], text_of(described), text)
+
+
+# models that are no tree, and trees of any models, without a process for each
+
+
+EDGES = (
+    lambda to: value_edge(to, "a"),
+    lambda to: value_edge(to, "b"),
+    lambda to: pattern_edge(to, 1),
+    lambda to: pattern_edge(to, 2, must_be("x")),
+)
+
+
+def loops():
+    """(model, the two numbers of its refusal; None where it is accepted): a start with a Parent, and other nodes with any."""
+    for up in 0, 1, 2, 9, 256, 2**64 - 1:
+        yield model(node(0, parent(up))), (13, 0)
+        yield model(node(0), node(1, parent(up)), node(2), start=1), (13, 1)
+        yield model(node(0, value_edge(2, "a")), node(1, parent(up)), node(2, parent(0))), None
+    for edge in EDGES:
+        yield model(node(0, parent(0), edge(0))), (13, 0)
+        yield model(node(0), node(1, parent(1), edge(1))), None
+        for start, refusal in (0, None), (1, (13, 1)), (2, (13, 2)):
+            yield model(node(0), node(1, parent(2), edge(2)), node(2, parent(1), edge(1)), start=start), refusal
+
+
+def twins():
+    """The same, of two edges to one node, next to each other or not, and of edges to two."""
+    for one, other in itertools.combinations_with_replacement(EDGES, 2):
+        apart = sorted([one(2), value_edge(3, "c"), pattern_edge(4, 3), other(2)], key=lambda edge: edge[0])
+        for edges, ends in ([one(2), other(2)], (2,)), (apart, (2, 3, 4)):
+            below = [node(i, parent(1)) for i in ends]
+            yield model(node(0, *edges), node(1), *(node(i, parent(0)) for i in ends)), (14, 0)
+            yield model(node(0, value_edge(1, "a")), node(1, parent(0), *edges), *below), (14, 1)
+            yield model(node(0), node(1, *edges), *below), (14, 1)  # nothing leads there
+            yield model(node(0), node(1, *edges), *below, start=2), (13, 2)
+        yield model(node(0), node(1), node(2, parent(2), one(2), other(2))), (14, 2)
+        several = node(1), node(2, parent(2), one(2), other(2)), node(3, parent(3), one(3), other(3))
+        yield model(node(0), *several), (14, 2)
+        yield model(node(0, one(1), other(2)), node(1, parent(0)), node(2, parent(0))), None
+        yield model(node(0, one(1), other(2)), node(1, parent(0), other(2)), node(2, parent(0))), (11, 1)
+
+
+def no_tree(*more, ends=(node(2),), **how):
+    """A loop through node 0, which has two edges to node 1, and these."""
+    return model(node(0, parent(1), value_edge(1, "a"), pattern_edge(1, 1), *more), node(1, parent(0), value_edge(0, "b")), *ends, **how)
+
+
+def outranked():
+    """The same, of a loop and twins with a fault that has a lower number."""
+    yield no_tree(start=9), (7, 0)
+    for start, refusal in (0, (13, 0)), (1, (13, 1)), (2, (14, 0)):
+        of = functools.partial(no_tree, start=start)
+        yield of(), refusal
+        yield of(ends=map(node, range(2, 257))), (4, 0)
+        yield of(pattern_edge(1, 129)), (5, 0)
+        yield of(behind=symbol(0, "a")), (5, 0)
+        yield of(ends=(node(2), node(7))), (6, 3)
+        yield of(pattern_edge(9, 1)), (8, 0)
+        yield of(signer(9)), (9, 0)
+        yield of(pattern_edge(1, 1, constraint(option()))), (10, 0)
+        yield of(pattern_edge(2, 1)), (11, 0)
+        yield of(pattern_edge(1, 1, constraint(option(call("$no"))))), (12, 0)
+
+
+def no_trees():
+    return [*loops(), *twins(), *outranked()]
+
+
+def check_no_trees():
+    """Every call that takes a model refuses these alike."""
+    name = names.name("/a")
+    calls = driver.verdict_case, driver.match_case, driver.sign_case, driver.follow_case, driver.suggest_case, driver.describe_case
+    words = (), (name,), (name, name), (name, name, [0, 0]), (name, [name]), ()
+    answered = iter(driver.ask([call(of, *more) for of, _ in no_trees() for call, more in zip(calls, words)]))
+    for of, refusal in no_trees():
+        for call in calls:
+            answer = next(answered)
+            found = tuple(answer) if isinstance(answer, answers.Refused) else None
+            check(f"{call.__name__} of {of.hex()}"[:200], found, refusal)
+
+
+NODE_LINE = re.compile(r" *(?:.* -> )?node (\d+)(?! \((?:above|no such node)\))\b.*")
+
+
+def check_tree(of, verdict):
+    """Each node is shown once and so is each edge, also of a model that is no tree; and nothing leads back below an accepted start."""
+    what, lines = f"the tree of {of.hex()}"[:200], list(trees.Tree(Labels(of), verdict).lines())
+    nodes = [inside for typ, inside in parts(of) if typ == NODE]
+    edges = [typ for inside in nodes for typ, _ in parts(inside) if typ in (VALUE_EDGE, PATTERN_EDGE)]
+    found = sorted(int(line[1]) for line in map(NODE_LINE.fullmatch, lines) if line)
+    check(f"nodes in {what}", found, list(range(len(nodes))))
+    check(f"edges in {what}", sum(" -> " in line for line in lines), len(edges))
+    if isinstance(verdict, answers.Accepted):
+        reached = itertools.takewhile(lambda line: line != "not reachable from the start:", lines)
+        check(f"ways back in {what}", [line for line in reached if line.endswith(" (above)")], [])
+
+
+def check_trees():
+    damaged = explanations.damaged_models([EXAMPLE, NAMED, CYCLE, FULL, *random_models(60)], 3000, seed="trees")
+    models = [*(of for of, _ in no_trees()), *damaged]
+    kinds = collections.Counter()
+    for of, verdict in [*judged_models(), *zip(models, driver.ask(list(map(driver.verdict_case, models))))]:
+        number = verdict.number if isinstance(verdict, answers.Refused) else 0
+        kinds[number] += 1
+        if number not in range(1, refusals.LAST_UNREADABLE + 1):
+            check_tree(of, verdict)
+    check("how many accepted models have a tree", kinds[0] >= 650, True)
+    check("the refusals that there are, and 0 of accepted models", sorted(kinds), [0, *MODEL_REFUSALS])
 
 
 def error_runs():
@@ -1190,7 +1399,7 @@ def run(words, folder, given=b"", command=COMMAND, **how):
 def check_runs(folder):
     lists = suggest_runs, refused_list_runs, long_list_runs, list_mistake_runs
     pairs = sign_runs, batch_runs, binding_runs, path_runs, follow_runs
-    parts = judge_runs, malformed_runs, match_runs, *pairs, *lists, tree_runs, show_runs, error_runs
+    parts = judge_runs, malformed_runs, no_tree_runs, match_runs, *pairs, *lists, tree_runs, show_runs, error_runs
     runs = [one for part in parts for one in part()]
     with concurrent.futures.ThreadPoolExecutor(os.cpu_count()) as pool:
         found = pool.map(lambda one: run(one.words, folder, one.given), runs)
@@ -1399,11 +1608,11 @@ def printed_bindings(answer, labels):
 
 def small_model(chance):
     """A model with few Tags, most of them named, so that names bind them and meet them again."""
-    parents = [None, *(max(0, i - chance.choice((1, 1, 2, 3))) for i in range(1, chance.randint(2, 8)))]
+    parents = [None, *(max(0, i - chance.choice((1, 1, 2, 3))) for i in range(1, chance.randint(2, 10)))]
     options = [value("x"), tag(chance.randint(1, 4)), call("$eq_type", tag(chance.randint(1, 4))), call("$eq", tag(1))]
     nodes = []
     for i, up in enumerate(parents):
-        children = [j for j, of in enumerate(parents) if of == i for _ in range(chance.choice((1, 1, 2)))]
+        children = [j for j, of in enumerate(parents) if of == i]
         patterns = [j for j in children if chance.random() < 0.8]
         constraints = [[constraint(*map(option, chance.choices(options, k=2)))] if chance.random() < 0.2 else [] for _ in patterns]
         edges = [value_edge(j, chance.choice("xy")) for j in children if j not in patterns]
@@ -1870,6 +2079,8 @@ def main_checks():
     check_binding_words()
     check_bindings()
     check_paths()
+    check_no_trees()
+    check_trees()
     check_round_trips()
     check_fault()
     check_examples()

@@ -4,8 +4,8 @@
 usage: speed.py [--against PROGRAM] [--counts] [WORD..]    only the rows whose name has one of the words; none: all, in about fifteen minutes
 
 With --against the second program is not the reference but another lvs_cases, such as one that was built before a change. One from between
-requests 6 and 7, whose `S` has no binding words and whose `M` has two for each Tag, gets its cases in that form. With --counts nothing
-is timed.
+requests 6 and 7, whose `S` has no binding words and whose `M` has two for each Tag, gets its cases in that form. One from before request 8,
+which accepts models that are no trees, is not asked about those: such a row has our numbers only. With --counts nothing is timed.
 
 A case is run many times by both programs, once both have given the answer that the row is about. What reading and printing it costs is
 taken off: the same run with a model of the same length whose first byte is wrong, which both refuse at once; of a description to write,
@@ -43,6 +43,7 @@ from compare import build_reference, FIELDS, OURS, REFERENCE  # noqa: E402
 
 PROGRAMS = [OURS / "lvs_cases", REFERENCE / "answer_cases"]
 WITHOUT_ORIGINS = []  # those of them whose signing case has no binding words, and whose matching case has two for each Tag
+WITHOUT_TREES = []  # those of them that accept a start with a Parent, and two edges of a Node to the same destination
 PATH = 64  # words: one for each component that two names may have
 UNUSED = 65535  # a word of a path that no call writes: no Node has so many edges
 COUNTED = 4  # times that a case is run under callgrind
@@ -53,63 +54,165 @@ TURNS = 9
 # models of about a given size
 
 
-def two_nodes(edge, size):
-    """As many of the edges from Node 0 to Node 1 as there is room for."""
-    last = build.node(1, build.parent(0))
-    room = size - len(build.model(build.node(0, bytes(300)), last))
-    return build.model(build.node(0, edge * (room // len(edge))), last)
+MOST_NODES = 256
+SIZES = [1 << i for i in range(10, 16)]
+LARGE_SIZES = SIZES[3:]  # where thousands of edges fit
+
+
+def children(count):
+    """Of the start, without edges."""
+    return [build.node(i, build.parent(0)) for i in range(1, count + 1)]
+
+
+def star(size, least, edge, most=MOST_NODES - 1, up=b""):
+    """The start and its children, as many as there is room for with `least` bytes for the edge to each. `edge(i, room)` takes that or less."""
+    room = size - len(build.model(build.node(0, up, bytes(300)))) + 300
+    count = min(room // (least + len(*children(1))), most)
+    ends, edges = children(count), []
+    room -= sum(map(len, ends))
+    for i in range(count):
+        edges.append(edge(i + 1, room // (count - i)))
+        room -= len(edges[-1])
+    return [build.node(0, up, *edges), *ends]
+
+
+def value_of(i, room):
+    """A ValueEdge of so many bytes."""
+    return build.value_edge(i, "p" * (room - len(build.value_edge(i, ""))))
+
+
+SHORT_VALUE = len(build.value_edge(1, "part"))
 
 
 def value_edges(size):
-    return two_nodes(build.value_edge(1, "part"), size)
+    return build.model(*star(size, SHORT_VALUE, value_of))
 
 
 def pattern_edges(size):
-    return two_nodes(build.pattern_edge(1, 1), size)
+    return build.model(*star(size, len(build.pattern_edge(1, 1)), lambda i, room: build.pattern_edge(i, 1)))
 
 
 def constraints(size):
-    call = build.call("$eq", build.tag(2))
-    return two_nodes(build.pattern_edge(1, 1, build.constraint(build.option(call), build.option(build.value("score")))), size)
+    """In each edge as many Constraints as there is room for, one at least."""
+    one = build.constraint(build.option(build.call("$eq", build.tag(2))), build.option(build.value("score")))
+    bare = len(build.pattern_edge(1, 1))
+    return build.model(*star(size, bare + len(one), lambda i, room: build.pattern_edge(i, 1, one * ((room - bare) // len(one)))))
 
 
 def optional_elements(size):
+    """As many optional elements before each Value and after it as there is room for, four at least."""
     skipped = build.element(0x80, b"")
-    return two_nodes(build.element(build.VALUE_EDGE, build.node_id(1), skipped * 4, build.value("part"), skipped * 4), size)
+
+    def edge(i, room):
+        around = skipped * ((room - SHORT_VALUE) // (2 * len(skipped)))
+        return build.element(build.VALUE_EDGE, build.node_id(i), around, build.value("part"), around)
+
+    return build.model(*star(size, SHORT_VALUE + 8 * len(skipped), edge))
 
 
-def chain(size):
-    """256 Nodes or fewer, one after the other, the room shared out as RuleNames."""
-    count = min(256, size // 32)
+def wide_tree(size, ways=15):
+    """256 Nodes or fewer, with so many children each or none, the room shared out as RuleNames."""
+    count = min(MOST_NODES, size // 32)
     name = build.rule_name("#" + "n" * (size // count - 26))
     nodes = []
     for i in range(count):
-        up = [build.parent(i - 1)] if i else []
-        down = [build.value_edge(i + 1, "p")] if i + 1 < count else []
-        nodes.append(build.node(i, *up, name, *down))
+        up = [build.parent((i - 1) // ways)] if i else []
+        below = range(ways * i + 1, min(ways * (i + 1) + 1, count))
+        nodes.append(build.node(i, *up, name, *(build.value_edge(child, "p") for child in below)))
     return build.model(*nodes)
 
 
+def chain(size):
+    """One Node after the other."""
+    return wide_tree(size, ways=1)
+
+
 def refused_at_last(size):
-    """A fault of the last rule, in the last Node that has edges."""
-    fault = build.pattern_edge(3, 1, build.constraint(build.option(build.call("$no"))))
-    return value_edges(size - 64) + build.node(2, fault) + build.node(3, build.parent(2))
+    """A fault of rule 12, in the last Node that has edges."""
+    nodes = star(size - 64, SHORT_VALUE, value_of, most=MOST_NODES - 2)
+    last = len(nodes) - 1
+    fault = build.pattern_edge(last + 1, 1, build.constraint(build.option(build.call("$no"))))
+    return build.model(*nodes[:-1], build.node(last, build.parent(0), fault), build.node(last + 1, build.parent(last)))
 
 
 def long_values(size):
     """ValueEdges with components of 200 bytes."""
-    return two_nodes(build.value_edge(1, "p" * 200), size)
+    of = lambda i: build.value_edge(i, "p" * 200)
+    return build.model(*star(size, len(of(1)), lambda i, room: of(i)))
 
 
-def optional_between(size):
-    """One Node with an edge to itself for the component b and one for any, and optional elements of two bytes between these."""
-    skipped, any_component = build.element(0x80, b""), build.pattern_edge(0, 1)
-    around = lambda *between: build.model(build.node(0, build.parent(0), build.value_edge(0, "b"), *between, any_component, build.signer(0)))
-    room = size - len(around(bytes(300))) + 300
-    return around(skipped * (room // len(skipped)))
+def optional_between(size, steps=1):
+    """From the start, and from each Node on so many steps for any component, an edge for the component b too, and between the two edges as many
+    optional elements of two bytes as there is room for."""
+    skipped, aside = build.element(0x80, b""), steps + 1
+
+    def around(between):
+        nodes = []
+        for i in range(steps):
+            up = [build.parent(i - 1)] if i else []
+            nodes.append(build.node(i, *up, build.value_edge(aside + i, "b"), between, build.pattern_edge(i + 1, 1)))
+        nodes.append(build.node(steps, build.parent(steps - 1), build.signer(steps)))
+        return build.model(*nodes, *(build.node(aside + i, build.parent(i)) for i in range(steps)))
+
+    room = size - len(around(bytes(300))) + 300 * steps
+    return around(skipped * (room // steps // len(skipped)))
 
 
-SHAPES = value_edges, pattern_edges, constraints, optional_elements, chain, refused_at_last, optional_between
+# models that are no trees
+
+
+def start_with_parent(size):
+    return build.model(*star(size, SHORT_VALUE, value_of, up=build.parent(1)))
+
+
+def in_turn(size, edge, destinations):
+    """As many of the edges as there is room for from the start to so many Nodes in turn."""
+    ends = children(destinations)
+    room = size - len(build.model(build.node(0, bytes(300)), *ends)) + 300
+    return build.model(build.node(0, *(edge(1 + i % destinations) for i in range(room // len(edge(1))))), *ends)
+
+
+def values_to_one(size):
+    return in_turn(size, lambda i: build.value_edge(i, "part"), 1)
+
+
+def patterns_to_one(size):
+    return in_turn(size, lambda i: build.pattern_edge(i, 1), 1)
+
+
+def values_in_turn(size):
+    return in_turn(size, lambda i: build.value_edge(i, "part"), MOST_NODES - 1)
+
+
+def twins_everywhere(size):
+    """256 Nodes, one after the other, with as many edges each to the next as there is room for."""
+    room = size // MOST_NODES - len(build.node(1, build.parent(1)))
+    count = room // len(build.value_edge(1, "p"))
+    nodes = []
+    for i in range(MOST_NODES):
+        up = [build.parent(i - 1)] if i else []
+        down = [build.value_edge(i + 1, "p")] * count if i + 1 < MOST_NODES else []
+        nodes.append(build.node(i, *up, *down))
+    return build.model(*nodes)
+
+
+PARENT_OF_START, TWINS = "refused 13 ", "refused 14 "
+# (shape, the answer, sizes); 255 PatternEdges without Constraints take 4 KiB with their Nodes
+SHAPES = (
+    (value_edges, "accepted ", SIZES),
+    (pattern_edges, "accepted ", SIZES[:3]),
+    (constraints, "accepted ", SIZES),
+    (optional_elements, "accepted ", SIZES),
+    (chain, "accepted ", SIZES),
+    (wide_tree, "accepted ", SIZES),
+    (refused_at_last, "refused 12 ", SIZES),
+    (optional_between, "accepted ", SIZES),
+    (start_with_parent, PARENT_OF_START, LARGE_SIZES),
+    (values_to_one, TWINS, LARGE_SIZES),
+    (patterns_to_one, TWINS, LARGE_SIZES),
+    (values_in_turn, TWINS, LARGE_SIZES),
+    (twins_everywhere, TWINS, LARGE_SIZES),
+)
 
 
 # signing calls: (what, model, packet name, key name)
@@ -174,18 +277,42 @@ def drawn(words, count):
         yield sign("allowed", model, name, name)
 
 
+def branching(ways, steps, named, *signers):
+    """A tree with so many ways from each Node, which any component passes, up to so many steps from the start; its last Node has these signers."""
+    inner = sum(ways**step for step in range(steps))
+    last = inner * ways
+    nodes = []
+    for i in range(last + 1):
+        up = [build.parent((i - 1) // ways)] if i else []
+        below = range(ways * i + 1, ways * (i + 1) + 1) if i < inner else ()
+        edges = [build.pattern_edge(child, 2 - child % 2) for child in below]
+        nodes.append(build.node(i, *up, *edges, *(map(build.signer, signers) if i == last else ())))
+    return build.model(*nodes, patterns=named)
+
+
 def backtracking(what="deep backtracking", named=2):
-    """Two ways from each Node to the next, and no signer: each pair of paths is tried."""
-    both = lambda i: build.pattern_edge(i, 1) + build.pattern_edge(i, 2)
-    nodes = [build.node(i, *([build.parent(i - 1)] if i else []), both(i + 1)) for i in range(6)]
+    """Two ways from each Node, six times, and no signer: each pair of paths is tried."""
     name = build.path("/a/a/a/a/a/a")
-    yield what, build.model(*nodes, build.node(6, build.parent(5)), patterns=named), name, name
+    yield what, branching(2, 6, named), name, name
+
+
+def wide_backtracking(what="wide backtracking", named=2):
+    """As many ways from the start as a tree can have: no model makes a signing call try more edges."""
+    yield what, branching(MOST_NODES - 1, 1, named), build.path("/a"), build.path("/a")
+
+
+def long_comparisons():
+    """The same with one component in each name, as long as can be: where its Tag is bound, it is compared as a whole."""
+    name = build.name("d" * 1016)
+    assert len(name) == 1024
+    yield "wide backtracking, long components", branching(MOST_NODES - 1, 1, 2), name, name
 
 
 def temporary():
-    """The same two with no Tag named: nothing is bound or compared."""
+    """Some of these with no Tag named: nothing is bound or compared."""
     yield from long_names("long names, temporary", named=0)
     yield from backtracking("deep backtracking, temporary", named=0)
+    yield from wide_backtracking("wide backtracking, temporary", named=0)
 
 
 def compared():
@@ -198,18 +325,22 @@ def compared():
         yield f"long values, {what}", build.model(*nodes), name, name
 
 
-def signings():
+def answered(*groups):
     """(what, the answer, model, packet name, key name)"""
-    for calls in (tutorial, long_names, many_nodes, bushy_models, backtracking, temporary, compared):
+    for calls in groups:
         for what, *call in calls():
             yield what, "not allowed" if "not allowed" in what or "backtracking" in what else "allowed", *call
+
+
+def signings():
+    return answered(tutorial, long_names, many_nodes, bushy_models, backtracking, wide_backtracking, temporary, compared)
 
 
 def matchings():
     """(what, the answer, model, packet name)"""
     for what, answer, model, packet, key in signings():
         if "backtracking" in what:
-            longer = build.path("/a/a/a/a/a/a/a")  # than any path of the model
+            longer = build.element(build.NAME, packet[2:], build.component("a"))  # than any path of the model
             yield f"match, {what}", "no match", model, longer
         elif answer == "allowed":
             yield f"match, {what.removesuffix(', allowed')}", "match", model, packet
@@ -224,49 +355,36 @@ def few_nodes():
     yield "a few Nodes", model, build.path("/site/alice/doc"), build.path("/site/alice/KEY")
 
 
-def ladder(steps):
-    """At each step of the packet's name a Tag is bound or none is, and the key's name, which is another, needs all of them free: of all
-    ways, twice as many with each step, only the last one leads to a signer."""
-    first = steps + 2  # of the key's Nodes
-    nodes = [build.node(0, build.value_edge(1, "data"), build.value_edge(first, "key"))]
-    for i in range(1, steps + 1):
-        nodes.append(build.node(i, build.parent(i - 1), build.pattern_edge(i + 1, i), build.pattern_edge(i + 1, steps + 1)))
-    nodes.append(build.node(steps + 1, build.parent(steps), build.signer(first + steps)))
-    nodes.append(build.node(first, build.parent(0), build.pattern_edge(first + 1, 1)))
-    for i in range(1, steps):
-        nodes.append(build.node(first + i, build.parent(first + i - 1), build.pattern_edge(first + i + 1, i + 1)))
-    nodes.append(build.node(first + steps, build.parent(first + steps - 1)))
-    return f"ladder, {steps} steps", build.model(*nodes, patterns=steps), build.path("/data" + "/p" * steps), build.path("/key" + "/k" * steps)
+def last_pairs():
+    """Backtracking with a pair at its end: of all pairs of paths only the last leads to a signer."""
+    for steps in (1, 3, 5, 7):
+        name, last = build.path("/a" * steps), 2 ** (steps + 1) - 2
+        yield f"deep, {steps} step{'s' * (steps > 1)}", branching(2, steps, 2, last), name, name
+    for ways in (15, 63, 255):
+        yield f"wide, {ways} ways", branching(ways, 1, 2, ways), *[build.path("/a")] * 2
 
 
 def counted_past():
-    """One Node with 4,000 edges to itself, which any component passes, and names of 1 or 32 components: by its first edge, and by its last.
-    Then names of 32 components by an edge behind as many optional elements as there is room for."""
-    edges = 4000
-    model = build.model(build.node(0, build.parent(0), build.pattern_edge(0, 1) * edges, build.signer(0)))
+    """By the first edge of 255, and by the last, each of which leads to a Node that signs itself."""
+    edges = MOST_NODES - 1
+    nodes = [build.node(i, build.parent(0), build.signer(i)) for i in range(1, edges + 1)]
+    model = build.model(build.node(0, *(build.pattern_edge(i, 1) for i in range(1, edges + 1))), *nodes)
+    for ordinal in (0, edges - 1):
+        yield f"255 edges, edge {ordinal}", model, *[build.path("/a")] * 2, [ordinal] * 2
+
+
+def skipped_past():
+    """By one edge behind as many optional elements as there is room for; and by 32 edges, each behind its share of these."""
     for steps in (1, 32):
-        name = build.path("/a" * steps)
-        for ordinal in (0, edges - 1):
-            yield f"4,000 edges, {steps} step{'s' * (steps > 1)}, edge {ordinal}", model, name, name, [ordinal] * 2 * steps
-    yield "optional elements, 32 steps", optional_between(1 << 15), name, name, None
-
-
-def last_value():
-    """2,000 values in one Node, the last of which is taken."""
-    edges = [build.value_edge(1, f"{i:04}") for i in range(2000)]
-    yield "2,000 values, the last", build.model(build.node(0, *edges), build.node(1, build.parent(0), build.signer(1))), *[build.path("/1999")] * 2
+        yield f"optional elements, {steps} step{'s' * (steps > 1)}", optional_between(1 << 15, steps), *[build.path("/a" * steps)] * 2
 
 
 def followings():
     (_, *article), _ = tutorial()
     yield "tutorial", *article, None
-    for calls in (few_nodes, long_names, many_nodes, bushy_models):
+    for calls in (few_nodes, long_names, many_nodes, bushy_models, last_pairs, skipped_past):
         for call in calls():
             yield *call, None
-    for steps in (4, 8, 12, 16):
-        yield *ladder(steps), None
-    for call in last_value():
-        yield *call, None
     yield from counted_past()
 
 
@@ -299,8 +417,8 @@ def lists_of(model):
 
 def descriptions():
     """(what, the answer, model, case, the case that is refused at once)"""
-    for shape in (value_edges, pattern_edges, constraints, chain, long_values):
-        for size in (1 << i for i in range(10, 16)):
+    for shape, sizes in (value_edges, SIZES), (pattern_edges, SIZES[:3]), (constraints, SIZES), (chain, SIZES), (long_values, SIZES):
+        for size in sizes:
             model = shape(size)
             lists = lists_of(model)
             if lists is None:
@@ -315,14 +433,13 @@ def descriptions():
 
 def workloads():
     """(what, the answer, model, case, the case that is refused at once)"""
-    for shape in SHAPES:
-        for size in (1 << i for i in range(10, 16)):
+    for shape, answer, sizes in SHAPES:
+        for size in sizes:
             model = shape(size)
             assert size // 2 < len(model) <= size, (shape.__name__, size, len(model))
             case = build.verdict(model)
-            answer = "refused 12 " if shape is refused_at_last else "accepted "
             yield f"verdict, {shape.__name__}, {size >> 10} KiB", answer, model, case, spoiled(case)
-    for what, answer, model, packet, key in signings():
+    for what, answer, model, packet, key in (*signings(), *answered(long_comparisons)):
         case = sign(answer, model, packet, key)
         yield what, answer, model, case, spoiled(case)
     for what, answer, model, packet in matchings():
@@ -364,6 +481,11 @@ def has_origins(program):
     """Whether the program's `S` has binding words: without them a case is broken off."""
     model, name = build.model(build.node(0)), build.path("/")
     return subprocess.run([program], input=older(b"S", [model, name, name, b"", b""]), capture_output=True, check=True).stdout == b"broken\n"
+
+
+def has_trees(program):
+    """Whether the program refuses a start with a Parent."""
+    return line_of(program, build.verdict(build.model(build.node(0, build.parent(0))))).startswith(PARENT_OF_START)
 
 
 def older(letter, fields):
@@ -432,24 +554,28 @@ def time_ratios(case, base, count):
     return sorted(turns)
 
 
-def expect(answer, case, base):
-    """Both programs answer so, and refuse what is taken off."""
-    for program in PROGRAMS:
+def expect(answer, case, base, programs):
+    """The programs answer so, and refuse what is taken off."""
+    for program in programs:
         for wanted, given in ((answer, case), ("refused ", base)):
             line = line_of(program, given)
             assert line.startswith(wanted) and line.count("\n") == 1, (program, wanted, line[:60])
 
 
 def row(what, answer, model, case, base, timed):
-    expect(answer, case, base)
-    ours, theirs = (instructions(program, case) - instructions(program, base) for program in PROGRAMS)
-    median = spread = ""
-    if timed:
-        count = max(20, int(TIMED_SECONDS * 5e9 / max(ours, 1)))
+    """Both programs, or ours alone of a model that is no tree where the other does not refuse that."""
+    programs = [program for program in PROGRAMS if answer not in (PARENT_OF_START, TWINS) or program not in WITHOUT_TREES]
+    expect(answer, case, base, programs)
+    ours, *other = (instructions(program, case) - instructions(program, base) for program in programs)
+    theirs = ratio = median = spread = ""
+    if other:
+        theirs, ratio = f"{other[0]:.0f}", f"{ours / other[0]:.3f}"
+    if other and timed:
+        count = max(1, int(TIMED_SECONDS * 5e9 / max(ours, 1)))
         count = min(count, (256 << 20) // len(case))
         times = time_ratios(case, base, count)
         median, spread = f"{times[TURNS // 2]:.2f}", f"{times[0]:.2f} to {times[-1]:.2f}"
-    print(f"{what:<40}{ours:>12.0f}{theirs:>12.0f}{ours / theirs:>8.3f}{median:>8}{spread:>16}{ours / len(model):>8.1f}", flush=True)
+    print(f"{what:<40}{ours:>12.0f}{theirs:>12}{ratio:>8}{median:>8}{spread:>16}{ours / len(model):>8.1f}", flush=True)
 
 
 def walks():
@@ -493,7 +619,7 @@ def follow_row(what, model, packet, key, words):
 def suggest_row(what, is_allowed, model, packet, keys):
     """One call for the list, and a signing call for each of its certificates."""
     case = build.suggest(model, packet, b"".join(keys))
-    expect(f"certificate {CERTIFICATES - 1}" if is_allowed else "none", case, spoiled(case))
+    expect(f"certificate {CERTIFICATES - 1}" if is_allowed else "none", case, spoiled(case), PROGRAMS)
     ours, theirs = (instructions(program, case) - instructions(program, spoiled(case)) for program in PROGRAMS)
     signing = [sign("not allowed", model, packet, key) for key in keys[:1]] * (CERTIFICATES - 1)
     signing.append(sign("allowed" if is_allowed else "not allowed", model, packet, keys[-1]))
@@ -521,6 +647,8 @@ def main():
         THEIRS.update(names=NAMES, walk=WALK)
         if not has_origins(PROGRAMS[1]):
             WITHOUT_ORIGINS.append(PROGRAMS[1])
+        if not has_trees(PROGRAMS[1]):
+            WITHOUT_TREES.append(PROGRAMS[1])
     else:
         build_reference()
     timed = words[:1] != ["--counts"]

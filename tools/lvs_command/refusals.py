@@ -20,6 +20,8 @@ REFUSALS = {
     10: Refusal("this node has a constraint option that is not exactly one value, tag or function call", "node"),
     11: Refusal("this node has an edge to a node whose Parent is missing or names another node", "node"),
     12: Refusal("this node calls an unknown function, or a known one with a wrong number of arguments", "node"),
+    13: Refusal("this node is the start and has a Parent", "node"),
+    14: Refusal("this node has two edges to the same node", "node"),
     21: Refusal("the packet name is longer than 1,024 bytes"),
     22: Refusal("the packet name is malformed: it is not one name element with nothing but components in it"),
     23: Refusal("the packet name has more than 32 components"),

@@ -20,7 +20,7 @@ the text:
   start INDEX                        the node where every name begins
   patterns COUNT                     how many patterns are named: a tag above COUNT is temporary
   node INDEX                         a node, and below it what it has, each any number of times:
-    parent INDEX                       the node whose edge leads here (at most one)
+    parent INDEX                       the node whose edge leads here (at most one; the start has none)
     rule #NAME                         a rule name
     edge value COMPONENT to INDEX      an edge for one component
     edge tag NUMBER to INDEX           an edge for any component, which a named tag is bound to

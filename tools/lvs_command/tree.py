@@ -20,7 +20,8 @@ A line is an edge and the node that it leads to, with its rule names in ( ) and 
 "x" is a value, as in a URI; a tag is called by its symbol where the model has one. _ begins a
 temporary pattern: its tag is above the number of named patterns, so it is never bound. After &
 come the edge's constraints, each in { } with | between its options. The nodes are in depth
-first order, each once: (above) is one that is there already.
+first order, each once: (above) is one that is there already. Below the start of an accepted
+model there is no such edge: the nodes that it leads to are a tree.
 
 The verdict is the proved one. The tree is a display of the model's bytes and is not proved.
 Of a model that is refused with 4 or more the tree is shown too, with a mark at the node that
