@@ -147,7 +147,7 @@ module _ (n : ℕ) (b : List ℕ) where
 
 -- a Node, where `parents` are those of n Nodes
 pub node-item : (start n i : ℕ) (parents b : List ℕ) {own root own′ to p s x y r : ℕ} → n ≡ length parents → own ≡ ownRule i (nodeOf b)
-    → root ≡ rootRule start i (nodeOf b) → own′ ≡ min own root → to ≡ destinationsRule parents i (destinations (nodeOf b))
+    → root ≡ rootRule parents i start → own′ ≡ min own root → to ≡ destinationsRule parents i (destinations (nodeOf b))
     → p ≡ swept n b sort.PatternEdge → s ≡ swept n b sort.Signer → x ≡ min p s → y ≡ min to x → r ≡ min own′ y → r ≡ nodeRule start parents i (nodeOf b)
 unfolding itemRule typeOf nodeRule nodeOf integers
 node-item start n i parents b count fo fr fo′ ft fp fs fx fy h =

@@ -22,7 +22,7 @@ use Rattle.tlv.proofs.Gathered.{Gathered, started, passed, took, ended, listed,
 use Rattle.lvs_spec.specs.Limits.{maxNodes}
 use Rattle.lvs_spec.specs.Types as type
 use Rattle.lvs_spec.specs.Model.{Argument, Term, componentOf, callOf, argumentFrom, argumentOf, termFrom, nodeOf}
-use Rattle.lvs_rules.specs.Lowest.{noRule, leastOf, tagRule, argumentRule, parentFrom, parentIndex}
+use Rattle.lvs_rules.specs.Lowest.{noRule, leastOf, tagRule, argumentRule, noParent, parentFrom, parentIndex}
 use Rattle.lvs_rules.specs.Faults.{earlier, lowestFrom, noFault, lowest}
 use Rattle.lvs_rules.specs.declared.Fault.{Fault}
 use Rattle.lvs_rules.proofs.Least.{min-assoc}
@@ -142,7 +142,7 @@ module _ {s : List ℕ} {at : ℕ} (inv : Gathered listed (integers type.Parent)
   unfolding integers
   no-parent st no′ = passed inv (read-other numberOf type.Parent st no′)
 
-  pub parent-none : Stop s at → maxNodes ≡ parentIndex (nodeOf s)
+  pub parent-none : Stop s at → noParent ≡ parentIndex (nodeOf s)
   unfolding parentIndex nodeOf integers parentFrom
   parent-none st = ap parentFrom (sym (ap first (rest-is inv ∙ read-stop numberOf type.Parent st)))
 

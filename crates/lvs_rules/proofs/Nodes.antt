@@ -1,15 +1,16 @@
 -- The lowest rule that a Node breaks, as the code finds it element by element, is the lowest that the table's tests find in the Node's parts.
 -- Assumes nothing.
 use mathlib.Core.Path.{_≡_, refl, sym, ap, _∙_}
-use mathlib.Core.Bool.{Bool, true, false, cond, _&&_, not}
+use mathlib.Core.Bool.{Bool, true, false, cond, not}
 use mathlib.Core.List.{List, map}
+use mathlib.Core.Option.{some}
 use Prim.Native.Nat.{ℕ, _≤_, _<_, min}
 use native.Mathlib.Nat.{min-comm, min-eq-left}
 use native.Mathlib.Omega.{arith}
 use borrow.Author.Tests.{le-ltb}
 use lib.Dec.{eqb}
-use lib.ListN.{length, length-map}
-use Rattle.tlv.specs.Lists.{each, isSome, twice}
+use lib.ListN.{length, getElem?, length-map}
+use Rattle.tlv.specs.Lists.{each, twice}
 use Rattle.lvs_spec.specs.Limits.{maxNodes}
 use Rattle.lvs_spec.specs.Model.{Model, Node, PatternEdge, Symbol, Constraint, ConstraintOption, Term, Call, Argument}
 use Rattle.lvs_spec.specs.Verdict.{rules, destinations, options, terms, callsIn, calls, argumentTags, termTags, nodeTags, namesNone, startHasParent, twins}
@@ -18,7 +19,7 @@ use Rattle.lvs_rules.specs.Lowest.{constraintRule}
 use Rattle.lvs_rules.specs.Lowest.{parentIndex, namedRule, ownRule, rootRule, destinationRule, destinationsRule, patternEdgeRule}
 use Rattle.lvs_rules.specs.Lowest.{nodeRule, symbolRule}
 use Rattle.lvs_rules.proofs.Least.{min-assoc, min-swap, least-same, least-append, least-both, least-map, least-each}
-use Rattle.lvs_rules.proofs.ParentWords.{destination-is}
+use Rattle.lvs_rules.proofs.ParentWords.{root-is, destination-is}
 use Rattle.lvs_rules.proofs.Rows.{Fits, fitting, firstRow, row-most, failsAt, failsOutside, row-node, row-outside}
 
 -- ---- the table
@@ -29,10 +30,11 @@ table-fits m = fitting 4 (rules m) refl
 
 -- a lemma for each kind of part: the code's test, and the rows of the table that ask something of it
 module _ (m : Model) where
-  node-row : (i : ℕ) (n : Node)
-      → min (ownRule i n) (min (rootRule (m .start) i n) (broken 14 (twice (destinations n)))) ≡ firstRow (λ a. a .node i n) (rules m)
-  unfolding ownRule rootRule rules broken startHasParent twins
-  node-row i n = go (not (eqb (n .id) i)) (eqb i (m .start) && isSome (n .parent)) (twice (destinations n))
+  node-row : (i : ℕ) (n : Node) → getElem? (m .nodes) i ≡ some n
+      → min (ownRule i n) (min (rootRule (map parentIndex (m .nodes)) i (m .start)) (broken 14 (twice (destinations n)))) ≡
+      firstRow (λ a. a .node i n) (rules m)
+  unfolding ownRule rules broken twins
+  node-row i n h = rw (root-is m i n h) (go (not (eqb (n .id) i)) (startHasParent m i n) (twice (destinations n)))
     where
       go : (a b c : Bool) → min (cond a 6 noRule) (min (cond b 13 noRule) (cond c 14 noRule)) ≡ cond a 6 (cond b 13 (cond c 14 noRule))
       go true true true = refl
@@ -147,18 +149,19 @@ module _ (m : Model) (n : Node) where
 
   parts-are : (start : ℕ) (parents : List ℕ) (i : ℕ)
       → nodeRule start parents i n ≡
-      min (min (ownRule i n) (min (rootRule start i n) (broken 14 (twice (destinations n)))))
+      min (min (ownRule i n) (min (rootRule parents i start) (broken 14 (twice (destinations n)))))
       (min (leastOf tagRule (nodeTags n))
       (min (leastOf (destinationRule parents i) (destinations n))
       (min (leastOf (namedRule 9 (length parents)) (n .signers)) (min optionRules callRules))))
   unfolding nodeRule destinationsRule
   parts-are start parents i = rw (patterns-are, tags-are) (simp (min-assoc, min-comm, min-swap))
 
-  pub node-rows : {i : ℕ} → i < maxNodes → nodeRule (m .start) (map parentIndex (m .nodes)) i n ≡ firstRow (λ a. failsAt a i n) (rules m)
-  node-rows {i} small =
+  pub node-rows : {i : ℕ} → i < maxNodes → getElem? (m .nodes) i ≡ some n
+      → nodeRule (m .start) (map parentIndex (m .nodes)) i n ≡ firstRow (λ a. failsAt a i n) (rules m)
+  node-rows {i} small there =
       parts-are (m .start) (map parentIndex (m .nodes)) i ∙
       rw (
-        node-row m i n,
+        node-row m i n there,
         least-same (tag-row m) (nodeTags n),
         least-same (destination-row m small) (destinations n),
         least-same (signer-row m) (n .signers),

@@ -1,27 +1,26 @@
 -- The Parent of a destination, looked up in the list of all Parents, is the one that rule 11 asks for; and whether there is one, for rule 13.
 -- Assumes nothing.
-use mathlib.Core.Path.{_≡_, refl, sym, ap, _∙_}
+use mathlib.Core.Path.{_≡_, refl, sym, _∙_}
 use mathlib.Core.Bool.{Bool, true, false, cond, not}
 use mathlib.Core.List.{List, [], _∷_, map}
-use mathlib.Core.Option.{Option, none, some}
+use mathlib.Core.Option.{Option, none, some, Option·some-injective}
 use Prim.Native.Nat.{ℕ, zero, suc, _≤_, _<_}
 use native.Mathlib.Nat.{not-suc-le-zero}
 use native.Mathlib.Omega.{arith}
-use borrow.Author.Tests.{eq-eqb, ne-eqb, le-leb, lt-leb, ltb-false, leb-false}
+use borrow.Author.Tests.{eq-eqb, ne-eqb, le-leb, lt-leb, ltb-true, ltb-false, leb-false}
 use lib.Dec.{leb, ltb, eqb}
 use lib.ListN.{length, getD, getElem?, length-map}
 use Rattle.tlv.specs.Lists.{bind, is, isSome}
-use Rattle.tlv.specs.Fields.{insides, integers}
 use Rattle.lvs_spec.specs.Limits.{maxNodes}
-use Rattle.lvs_spec.specs.Types as type
-use Rattle.lvs_spec.specs.Model.{Model, Node, nodeOf}
-use Rattle.lvs_spec.specs.Verdict.{namesNone, notParent}
-use Rattle.lvs_rules.specs.Lowest.{noRule, broken, parentFrom, parentIndex, rootRule, destinationRule}
+use Rattle.lvs_spec.specs.Model.{Model, Node}
+use Rattle.lvs_spec.specs.Verdict.{namesNone, notParent, startHasParent}
+use Rattle.lvs_spec.proofs.Lists.{getElem-map, getElem-getD, getElem-lt}
+use Rattle.lvs_rules.specs.Lowest.{noRule, broken, noParent, parentFrom, parentIndex, rootRule, destinationRule}
 
 module _ {i : ℕ} (small : i < maxNodes) where
   same-parent : (o : Option ℕ) → eqb i (parentFrom o) ≡ is (eqb i) o
   unfolding parentFrom
-  same-parent none = ne-eqb i maxNodes (λ e. omega arith)
+  same-parent none = ne-eqb i noParent (λ e. omega arith)
   same-parent (some p) = go (ltb p maxNodes) refl
     where
       go : (t : Bool) → ltb p maxNodes ≡ t → eqb i (cond t p maxNodes) ≡ eqb i p
@@ -53,32 +52,40 @@ module _ (parents : List ℕ) (i d : ℕ) where
 
 -- ---- the start's Parent
 
-pub other-node : (start i : ℕ) (n : Node) → (i ≡ start → ⊥) → noRule ≡ rootRule start i n
-unfolding rootRule broken
-other-node start i n no′ = rw (ne-eqb i start no′)
+module _ (parents : List ℕ) (i start : ℕ) where
+  pub other-node : (i ≡ start → ⊥) → noRule ≡ rootRule parents i start
+  unfolding rootRule broken
+  other-node no′ = rw (ne-eqb i start no′)
 
-module _ (b : List ℕ) {start i c : ℕ} (at : i ≡ start) (count : c ≡ length (insides type.Parent b)) where
-  counted-parents : (is-there : Bool) → isSome (nodeOf b .parent) ≡ is-there → broken 13 is-there ≡ rootRule start i (nodeOf b)
-  unfolding rootRule
-  counted-parents x e = rw (eq-eqb i start at, e)
+  pub no-parent : i ≡ start → getD parents i 0 ≡ noParent → noRule ≡ rootRule parents i start
+  unfolding rootRule broken
+  no-parent at e = rw (eq-eqb i start at, eq-eqb _ _ e)
 
-  pub no-parent : c ≡ 0 → noRule ≡ rootRule start i (nodeOf b)
-  unfolding nodeOf integers broken
-  no-parent e = go (insides type.Parent b) refl
-    where
-      go : (xs : List (List ℕ)) → insides type.Parent b ≡ xs → noRule ≡ rootRule start i (nodeOf b)
-      go [] q = counted-parents false (rw q)
-      go (x ∷ xs) q = absurd (omega (arith, count, ap length q))
-
-  pub some-parent : (c ≡ 0 → ⊥) → 13 ≡ rootRule start i (nodeOf b)
-  unfolding nodeOf integers broken
-  some-parent no′ = go (insides type.Parent b) refl
-    where
-      go : (xs : List (List ℕ)) → insides type.Parent b ≡ xs → 13 ≡ rootRule start i (nodeOf b)
-      go [] q = absurd (no′ (count ∙ ap length q))
-      go (x ∷ xs) q = counted-parents true (rw q)
+  pub some-parent : i ≡ start → (getD parents i 0 ≡ noParent → ⊥) → 13 ≡ rootRule parents i start
+  unfolding rootRule broken
+  some-parent at no′ = rw (eq-eqb i start at, ne-eqb _ _ no′)
 
 -- ---- in a Model
+
+word-tells : (o : Option ℕ) → not (eqb (parentFrom o) noParent) ≡ isSome o
+unfolding parentFrom
+word-tells none = refl
+word-tells (some p) = go (ltb p maxNodes) refl
+  where
+    go : (t : Bool) → ltb p maxNodes ≡ t → not (eqb (cond t p maxNodes) noParent) ≡ true
+    go true q = let l = ltb-true p maxNodes q in rw (ne-eqb p noParent (λ e. omega arith))
+    go false q = refl
+
+-- the word of a Node
+word-of : (ns : List Node) (i : ℕ) {n : Node} → getElem? ns i ≡ some n → getD (map parentIndex ns) i 0 ≡ parentIndex n
+word-of ns i {n} h =
+    let there = getElem-map parentIndex ns i h in
+    sym (Option·some-injective _ _ (sym there ∙ getElem-getD (map parentIndex ns) i 0 (getElem-lt (map parentIndex ns) i there)))
+
+pub root-is : (m : Model) (i : ℕ) (n : Node) → getElem? (m .nodes) i ≡ some n
+    → rootRule (map parentIndex (m .nodes)) i (m .start) ≡ broken 13 (startHasParent m i n)
+unfolding rootRule startHasParent parentIndex
+root-is m i n h = rw (word-of (m .nodes) i h, word-tells (n .parent))
 
 pub destination-is : (m : Model) {i : ℕ} → i < maxNodes → (d : ℕ)
     → destinationRule (map parentIndex (m .nodes)) i d ≡ cond (namesNone m d) 8 (broken 11 (notParent m i d))

@@ -2,16 +2,16 @@
 -- By induction over the table. Assumes nothing.
 use mathlib.Core.Path.{_≡_, refl, sym, ap, _∙_}
 use mathlib.Core.Bool.{Bool, true, false, cond, _||_, not, or-false}
-use mathlib.Core.List.{List, [], _∷_, map}
+use mathlib.Core.List.{List, [], _∷_, map, cons≢nil}
 use mathlib.Core.Option.{Option, none, some}
-use Prim.Native.Nat.{ℕ, suc, _+_, _≤_, _<_}
+use Prim.Native.Nat.{ℕ, zero, suc, _≤_, _<_}
 use native.Mathlib.Nat.{le-refl}
 use native.Mathlib.Omega.{arith}
 use borrow.Author.Tests.{lt-ltb, le-ltb, ne-eqb, ltb-true, ltb-false}
 use lib.Dec.{ltb, eqb}
-use lib.ListN.{length}
+use lib.ListN.{length, drop, getElem?}
 use Rattle.tlv.proofs.Gathered.{any-append}
-use Rattle.tlv.specs.Lists.{any, each}
+use Rattle.tlv.specs.Lists.{any, each, first}
 use Rattle.lvs_spec.specs.Model.{Model, Node, Symbol}
 use Rattle.lvs_spec.specs.Verdict.{Test, whole, someTag, someNode, someDestination, someSigner, someOption, someCall, Verdict, refused, fault, decide}
 use Rattle.lvs_spec.specs.Verdict.{somewhere, firstFault, tags, nodeTags, destinations, options, calls}
@@ -226,18 +226,26 @@ from-none x outside count h = go (ltb (x .rule) noRule) refl
         let e : x .rule ≡ noRule = omega arith in
         rw e
 
-module _ {f g : ℕ → Node → ℕ} (b : ℕ) (same : (i : ℕ) → i < b → (n : Node) → f i n ≡ g i n) where
-  pass-same : (a : Fault) (i : ℕ) (ns : List Node) → i + length ns ≤ b → lowestFrom f a i ns ≡ lowestFrom g a i ns
+-- what is left of a list, from an index on
+left-from : {A : Type 0} (xs : List A) (i : ℕ) {x : A} {rest : List A} → drop i xs ≡ x ∷ rest → (getElem? xs i ≡ some x) × (drop (suc i) xs ≡ rest)
+left-from [] zero h = absurd (cons≢nil (sym h))
+left-from [] (suc i) h = absurd (cons≢nil (sym h))
+left-from (y ∷ ys) zero h = (ap first h, ap (drop 1) h)
+left-from (y ∷ ys) (suc i) h = left-from ys i h
+
+-- two passes that agree on each Node at its index
+module _ {f g : ℕ → Node → ℕ} (all : List Node) (same : (i : ℕ) (n : Node) → getElem? all i ≡ some n → f i n ≡ g i n) where
+  pass-same : (a : Fault) (i : ℕ) (ns : List Node) → drop i all ≡ ns → lowestFrom f a i ns ≡ lowestFrom g a i ns
   unfolding lowestFrom
   pass-same a i [] h = refl
-  pass-same a i (n ∷ ns) h = rw (same i (omega arith) n) (pass-same _ (suc i) ns (omega arith))
+  pass-same a i (n ∷ ns) h = let (there, later) = left-from all i h in rw (same i n there) (pass-same _ (suc i) ns later)
 
 -- the verdict by a table, from the lowest rule that each Node breaks and the lowest that is broken outside of the Nodes
 pub decided-by : (m : Model) {k : ℕ} {rs : List Row} → Fits k rs → (f : ℕ → Node → ℕ) (outside : ℕ)
-    → ((i : ℕ) → i < length (m .nodes) → (n : Node) → f i n ≡ firstRow (λ a. failsAt a i n) rs) → outside ≡ firstRow (failsOutside m) rs
+    → ((i : ℕ) (n : Node) → getElem? (m .nodes) i ≡ some n → f i n ≡ firstRow (λ a. failsAt a i n) rs) → outside ≡ firstRow (failsOutside m) rs
     → decide m rs ≡ verdictOf (lowest f (m .nodes)) outside (length (m .nodes))
 unfolding lowest
 decided-by m {rs = rs} fits f outside same e =
     let ns = m .nodes in
-    rw (e, pass-same (length ns) same noFault 0 ns (omega arith), one-pass fits noFault (le-refl noRule) 0 ns)
+    rw (e, pass-same ns same noFault 0 ns refl, one-pass fits noFault (le-refl noRule) 0 ns)
     (decided m fits ∙ from-none (firstThere 0 ns rs) (firstRow (failsOutside m) rs) (length ns) (there-most 0 ns fits))

@@ -7,6 +7,7 @@ use borrow.Author.Tests.{lt-ltb, le-ltb, eq-eqb, ne-eqb}
 use lib.ListN.{length}
 use Rattle.lvs_spec.specs.Limits.{maxNodes}
 use Rattle.lvs_spec.specs.Model.{Model}
+use Rattle.lvs_spec.proofs.Lists.{getElem-lt}
 use Rattle.lvs_spec.specs.Verdict.{accepted, refused, rules, fault, decide, judge}
 use Rattle.lvs_rules.specs.Lowest.{noRule, leastOf, namedRule, symbolRule, nodeRule, parentIndex}
 use Rattle.lvs_rules.specs.Faults.{lowest, named, verdictOf}
@@ -21,7 +22,9 @@ pub judge-few : (m : Model) → length (m .nodes) ≤ maxNodes
     (length (m .nodes))
 unfolding judge
 judge-few m few =
-    decided-by m (table-fits m) (nodeRule (m .start) (map parentIndex (m .nodes))) _ (λ i h n. node-rows m n (omega arith)) (outside-rows m few)
+    decided-by m (table-fits m) (nodeRule (m .start) (map parentIndex (m .nodes))) _
+    (λ i n there. node-rows m n (omega (arith, getElem-lt (m .nodes) i there)) there)
+    (outside-rows m few)
 
 pub judge-many : (m : Model) → maxNodes < length (m .nodes) → judge m ≡ refused 4 0
 unfolding judge rules decide fault

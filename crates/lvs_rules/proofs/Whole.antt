@@ -35,7 +35,7 @@ module _ (s : List ℕ) {n : ℕ} (count : n ≡ length (insides type.Node s)) w
     pub as-many : n ≡ length (take n all)
     as-many = rw (count, filled, length-map)
 
-    pub few-enough : n ≤ maxNodes → (length (insides type.Node s) ≤ maxNodes) × (length (take n all) ≤ maxNodes)
+    pub few-enough : n ≤ maxNodes → (length (insides type.Node s) ≤ maxNodes) × (length (take n all) ≡ length (insides type.Node s))
     few-enough few = let e = as-many in (omega arith, omega arith)
 
     all-parents : map parentIndex (modelOf s .nodes) ≡ take n all

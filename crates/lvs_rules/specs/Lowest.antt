@@ -1,12 +1,12 @@
 -- The lowest rule that a part of a Model breaks, for each part; noRule where it breaks none. Definitions only.
-use Prim.Native.Nat.{ℕ, min}
+use Prim.Native.Nat.{ℕ, _+_, min}
 use mathlib.Core.Bool.{Bool, true, false, cond, _&&_, not}
 use mathlib.Core.Path.{_≡_}
 use mathlib.Core.List.{List, [], _∷_}
 use mathlib.Core.Option.{Option, none, some}
 use lib.Dec.{leb, ltb, eqb}
 use lib.ListN.{length, getD, set}
-use Rattle.tlv.specs.Lists.{isSome, twice}
+use Rattle.tlv.specs.Lists.{twice}
 use Rattle.lvs_spec.specs.Limits.{maxNodes}
 use Rattle.lvs_spec.specs.Model.{Argument, Call, Term, ConstraintOption, Constraint, PatternEdge, Node, Symbol}
 use Rattle.lvs_spec.specs.Verdict.{badTag, badCall, destinations}
@@ -53,9 +53,12 @@ optionRule o = min (termsRule o) (leastOf termRule o)
 unfoldable pub constraintRule : Constraint → ℕ
 constraintRule c = leastOf optionRule c
 
--- a Parent's index; maxNodes, which no Node has, where there is none or it names no Node
+-- a Parent's index; where it names no Node maxNodes, and where there is none the number after that: no Node has either
+abbrev pub noParent : ℕ
+noParent = maxNodes + 1
+
 unfoldable pub parentFrom : Option ℕ → ℕ
-parentFrom none = maxNodes
+parentFrom none = noParent
 parentFrom (some p) = cond (ltb p maxNodes) p maxNodes
 
 unfoldable pub parentIndex : Node → ℕ
@@ -69,15 +72,16 @@ namedRule r n index = broken r (leb n index)
 unfoldable pub ownRule : ℕ → Node → ℕ
 ownRule i n = broken 6 (not (eqb (n .id) i))
 
--- of its Parent
-unfoldable pub rootRule : ℕ → ℕ → Node → ℕ
-rootRule start i n = broken 13 (eqb i start && isSome (n .parent))
-
 unfoldable pub patternEdgeRule : PatternEdge → ℕ
 patternEdgeRule e = min (tagRule (e .tag)) (leastOf constraintRule (e .constraints))
 
--- of its edges' destinations; `parents` has each Node's Parent, so its length is the number of Nodes
+-- `parents` has each Node's Parent, so its length is the number of Nodes
 module _ (parents : List ℕ) (i : ℕ) where
+  -- of its own Parent
+  unfoldable pub rootRule : ℕ → ℕ
+  rootRule start = broken 13 (eqb i start && not (eqb (getD parents i 0) noParent))
+
+  -- of its edges' destinations
   unfoldable pub destinationRule : ℕ → ℕ
   destinationRule d = cond (leb (length parents) d) 8 (broken 11 (not (eqb i (getD parents d 0))))
 
@@ -92,7 +96,7 @@ pub record Noted (seen : List Bool) (d r : ℕ) (after : List Bool) : Type 0 whe
 
 unfoldable pub nodeRule : ℕ → List ℕ → ℕ → Node → ℕ
 nodeRule start parents i n =
-    min (min (ownRule i n) (rootRule start i n))
+    min (min (ownRule i n) (rootRule parents i start))
     (min (destinationsRule parents i (destinations n))
     (min (leastOf patternEdgeRule (n .patternEdges)) (leastOf (namedRule 9 (length parents)) (n .signers))))
 

@@ -105,7 +105,7 @@ fn conclude(fault: Fault, whole: u32, nodes: u32) -> Judged
 
 // The lowest rule that a Node breaks, with the first Node that breaks it.
 fn lowest_fault(model: &[u8], start: u64, parents: &[u32]) -> Fault
-    requires { ⌜ (length (insides type.Node (now model)) ≤ maxNodes) × (length (now parents) ≤ maxNodes) ⌝ }
+    requires { ⌜ (length (insides type.Node (now model)) ≤ maxNodes) × (length (now parents) ≡ length (insides type.Node (now model))) ⌝ }
     ensures { λ r.
         ⌜
         r ≡
@@ -151,10 +151,10 @@ fn earlier(a: Fault, b: Fault) -> Fault
 
 // The lowest rule that the Node with index `i` breaks.
 fn node_rule(node: &[u8], i: u32, start: u64, parents: &[u32]) -> u32
-    requires { ⌜ length (now parents) ≤ maxNodes ⌝ }
+    requires { ⌜ (length (now parents) ≤ maxNodes) × (i < length (now parents)) ⌝ }
     ensures { λ r. ⌜ r ≡ nodeRule start (now (parents .entry)) i (nodeOf (now (node .entry))) ⌝ }
 {
-    let own = lower(own_rule(node, i), root_rule(node, i, start));
+    let own = lower(own_rule(node, i), root_rule(i, start, parents));
     let edges = destinations_rule(node, i, parents);
     let patterns = sweep(node, Sort::PatternEdge, parents.len());
     let signers = sweep(node, Sort::Signer, parents.len());

@@ -10,28 +10,15 @@ ghost use Rattle.tlv.specs.Fields.{insides};
 ghost use Rattle.lvs_spec.specs.Types as type;
 ghost use Rattle.lvs_rules.specs.Lowest.{parentFrom, parentIndex, rootRule};
 use crate::numbers::NO_RULE;
-use crate::options::count_of;
 use lvs_spec::types::NODE;
 use lvs_spec::types::PARENT;
 use tlv::Place;
 use tlv::Read;
 
-// No Node's index: the Parent of a Node that has none.
+// No Node's index: a Parent that names none, and the word of a Node that has no Parent.
 const NO_NODE: u32 = lvs_spec::MAX_NODES as u32;
 
-// Rule 13: the Node that StartId names has no Parent.
-pub(crate) fn root_rule(node: &[u8], i: u32, start: u64) -> u32
-    ensures { λ r. ⌜ r ≡ rootRule start i (nodeOf (now (node .entry))) ⌝ }
-{
-    if i as u64 != start {
-        return NO_RULE;
-    }
-    if count_of(node, PARENT) == 0 {
-        NO_RULE
-    } else {
-        13
-    }
-}
+const NO_PARENT: u32 = NO_NODE + 1;
 
 // Each Node's Parent, by the Node's index.
 pub(crate) fn parents_of(model: &[u8]) -> [u32; lvs_spec::MAX_NODES]
@@ -69,7 +56,7 @@ pub(crate) fn parents_of(model: &[u8]) -> [u32; lvs_spec::MAX_NODES]
     }
 }
 
-// The index of a Node's Parent; MAX_NODES where it has none or one that names no Node.
+// The index of a Node's Parent; NO_NODE where it names none, NO_PARENT where there is none.
 fn parent_of(node: &[u8]) -> u32
     ensures { λ r. ⌜ r ≡ parentIndex (nodeOf (now (node .entry))) ⌝ }
 {
@@ -88,10 +75,10 @@ fn parent_of(node: &[u8]) -> u32
                 }
             }
             Read::End => {
-                return NO_NODE;
+                return NO_PARENT;
             }
             Read::Malformed => {
-                return NO_NODE;
+                return NO_PARENT;
             }
         }
     }
@@ -104,5 +91,21 @@ fn index_of(p: u64) -> u32
         p as u32
     } else {
         NO_NODE
+    }
+}
+
+// Rule 13: the Node that StartId names has no Parent. `i` is the index of the Node at hand.
+pub(crate) fn root_rule(i: u32, start: u64, parents: &[u32]) -> u32
+    requires { ⌜ i < length (now parents) ⌝ }
+    ensures { λ r. ⌜ r ≡ rootRule (now (parents .entry)) i start ⌝ }
+{
+    if i as u64 != start {
+        return NO_RULE;
+    }
+    let at = i as usize;
+    if parents[at] == NO_PARENT {
+        NO_RULE
+    } else {
+        13
     }
 }

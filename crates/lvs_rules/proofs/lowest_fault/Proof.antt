@@ -37,6 +37,14 @@ part-node-rule-start c = omega (arith, step (c .before .before))
 part-node-rule-end : tie.Need-part-node-rule-end Inv-loop μ-loop
 part-node-rule-end c = omega (arith, step (c .before .before))
 
+node-rule-requires : tie.Need-node-rule-requires Inv-loop μ-loop
+node-rule-requires c κs =
+    let node = c .before in
+    let turn = node .before .before in
+    let loop = turn .before .before .before in
+    let few = loop .before .before .before .pre in
+    (omega (arith, few), omega (arith, few, node-index _ (loop .loop .inv) (step turn) (node .if1 .taken)))
+
 add-i : tie.Need-add-i Inv-loop μ-loop
 add-i c =
     let node = c .before .before .before in
@@ -79,7 +87,7 @@ lowest-fault-spec =
     sub-node-rule
     part-node-rule-start
     part-node-rule-end
-    (λ c κs. search needs)
+    node-rule-requires
     (λ c κs. search needs)
     add-i
     loop-less

@@ -8,10 +8,10 @@ returns : tie.Need-returns
 returns c = other-node _ _ _ (c .if1 .taken)
 
 returns-2 : tie.Need-returns-2
-returns-2 c = no-parent _ (c .before .before .if1 .left) (c .before .count-of .ensures) (c .if2 .taken)
+returns-2 c = no-parent _ _ _ (c .before .before .if1 .left) (c .if2 .taken)
 
 returns-3 : tie.Need-returns-3
-returns-3 c = some-parent _ (c .before .before .if1 .left) (c .before .count-of .ensures) (c .if2 .left)
+returns-3 c = some-parent _ _ _ (c .before .before .if1 .left) (c .if2 .left)
 
 pub root-rule-spec : {M : Type 1} → statement M
-root-rule-spec = tie.close (tie.spec returns (λ c κs. search needs) returns-2 returns-3)
+root-rule-spec = tie.close (tie.spec returns (λ c. search needs) (λ c. search needs) returns-2 returns-3)
