@@ -910,7 +910,7 @@ node 0 (start)
         yield Run(["tree", f"r{number}.lvs"], 2, f"{REFUSED[number]}\n{rest}")
     rest = "2 nodes, start at node 0, 0 named patterns\nnode 0 (start, parent 9)  <- refused 13\n"
     yield Run(["tree", "r13-far.lvs"], 2, f'{refused_words(13, 0)}\n{rest}  "a" -> node 1\n')
-    for number, objects in (13, loop_objects()), (14, twin_objects()):
+    for number, objects in (13, loop_objects()), (14, parallel_objects()):
         of = {"answer": "refused", "number": number, "node": 1, "meaning": REFUSED[number].partition(": ")[2]}
         yield Run(["tree", "--json", f"r{number}.lvs"], 2, "".join(json.dumps(one) + "\n" for one in (of, *objects)))
     lines = "".join("  " * i + f'"p" -> node {i}\n' for i in range(1, 1500))
@@ -930,7 +930,7 @@ def loop_objects():
     yield shown(1, 0, [], [{"to": 0, "value": "b", "optional": []}])
 
 
-def twin_objects():
+def parallel_objects():
     """r14.lvs, below its refusal."""
     yield {"start": 0, "named_patterns": 0, "symbols": [], "optional": []}
     yield shown(0, None, [], [{"to": 1, "value": "a", "optional": []}])
@@ -1039,7 +1039,7 @@ def show_runs():
 
 
 LOOP_TEXT = "start 1\npatterns 0\nnode 0\nparent 1\nedge value a to 1\nnode 1\nparent 0\nedge value b to 0\n"
-TWINS_TEXT = B_TEXT.replace("  edge tag 1 to 1\n", "  edge tag 1 to 1\n  edge value a to 1\n")
+PARALLEL_TEXT = B_TEXT.replace("  edge tag 1 to 1\n", "  edge tag 1 to 1\n  edge value a to 1\n")
 
 
 def refused_words(number, node):
@@ -1076,7 +1076,7 @@ def check_texts(folder):
     meaning, places = REFUSED[9].partition(": ")[2], '[{"line": 4, "text": "node 0"}]'
     refused = f'{{"answer": "refused", "number": 9, "node": 0, "meaning": "{meaning}", "places": {places}}}\n'
     asked.append(("refused, --json", A_TEXT + "signer 9", ["--json"], 2, refused, "", None))
-    for number, text, at, line in (13, LOOP_TEXT, 1, 6), (14, TWINS_TEXT, 0, 4):
+    for number, text, at, line in (13, LOOP_TEXT, 1, 6), (14, PARALLEL_TEXT, 0, 4):
         out = f"{refused_words(number, at)}\n  standard input:{line}: node {at}\n"
         asked.append((f"refusal {number} of a text", text, [], 2, out, "", None))
         of = {"answer": "refused", "number": number, "node": at, "meaning": REFUSED[number].partition(": ")[2]}
@@ -1114,7 +1114,7 @@ def check_files(folder):
     place = folder / "files"
     place.mkdir()
     wrong, bad = A_TEXT + "edge value a to x\n", A_TEXT + "\nsigner 1\n"
-    for file, text in ("good", B_TEXT), ("wrong", wrong), ("bad", bad), ("loop", LOOP_TEXT), ("twins", TWINS_TEXT):
+    for file, text in ("good", B_TEXT), ("wrong", wrong), ("bad", bad), ("loop", LOOP_TEXT), ("parallel", PARALLEL_TEXT):
         (place / f"{file}.txt").write_text(text)
     (place / "old.lvs").write_bytes(A)
     (place / "old.lvs").chmod(0o640)
@@ -1127,7 +1127,7 @@ def check_files(folder):
         (["wrong.txt", "old.lvs"], (3, "", "wrong.txt:5: expected a node index after 'to', found 'x'\n")),
         (["bad.txt", "old.lvs"], (2, f"{refused_words(9, 0)}\n  bad.txt:4: node 0\n", "")),
         (["loop.txt", "old.lvs"], (2, f"{refused_words(13, 1)}\n  loop.txt:6: node 1\n", "")),
-        (["twins.txt", "old.lvs"], (2, f"{refused_words(14, 0)}\n  twins.txt:4: node 0\n", "")),
+        (["parallel.txt", "old.lvs"], (2, f"{refused_words(14, 0)}\n  parallel.txt:4: node 0\n", "")),
         (["none.txt", "old.lvs"], (3, "", "lvs: cannot read the text 'none.txt': No such file or directory\n")),
         (["folder", "old.lvs"], (3, "", "lvs: cannot read the text 'folder': Is a directory\n")),
         (["old.lvs", "link.lvs"], (3, "", f"lvs build: TEXT and MODEL are the same file {see}\n")),
@@ -1228,7 +1228,7 @@ def loops():
             yield model(node(0), node(1, parent(2), edge(2)), node(2, parent(1), edge(1)), start=start), refusal
 
 
-def twins():
+def parallel_edges():
     """The same, of two edges to one node, next to each other or not, and of edges to two."""
     for one, other in itertools.combinations_with_replacement(EDGES, 2):
         apart = sorted([one(2), value_edge(3, "c"), pattern_edge(4, 3), other(2)], key=lambda edge: edge[0])
@@ -1251,7 +1251,7 @@ def no_tree(*more, ends=(node(2),), **how):
 
 
 def outranked():
-    """The same, of a loop and twins with a fault that has a lower number."""
+    """The same, of a loop and parallel edges with a fault that has a lower number."""
     yield no_tree(start=9), (7, 0)
     for start, refusal in (0, (13, 0)), (1, (13, 1)), (2, (14, 0)):
         of = functools.partial(no_tree, start=start)
@@ -1268,7 +1268,7 @@ def outranked():
 
 
 def no_trees():
-    return [*loops(), *twins(), *outranked()]
+    return [*loops(), *parallel_edges(), *outranked()]
 
 
 def check_no_trees():

@@ -184,7 +184,7 @@ def values_in_turn(size):
     return in_turn(size, lambda i: build.value_edge(i, "part"), MOST_NODES - 1)
 
 
-def twins_everywhere(size):
+def parallel_everywhere(size):
     """256 Nodes, one after the other, with as many edges each to the next as there is room for."""
     room = size // MOST_NODES - len(build.node(1, build.parent(1)))
     count = room // len(build.value_edge(1, "p"))
@@ -196,7 +196,7 @@ def twins_everywhere(size):
     return build.model(*nodes)
 
 
-PARENT_OF_START, TWINS = "refused 13 ", "refused 14 "
+PARENT_OF_START, PARALLEL = "refused 13 ", "refused 14 "
 # (shape, the answer, sizes); 255 PatternEdges without Constraints take 4 KiB with their Nodes
 SHAPES = (
     (value_edges, "accepted ", SIZES),
@@ -208,10 +208,10 @@ SHAPES = (
     (refused_at_last, "refused 12 ", SIZES),
     (optional_between, "accepted ", SIZES),
     (start_with_parent, PARENT_OF_START, LARGE_SIZES),
-    (values_to_one, TWINS, LARGE_SIZES),
-    (patterns_to_one, TWINS, LARGE_SIZES),
-    (values_in_turn, TWINS, LARGE_SIZES),
-    (twins_everywhere, TWINS, LARGE_SIZES),
+    (values_to_one, PARALLEL, LARGE_SIZES),
+    (patterns_to_one, PARALLEL, LARGE_SIZES),
+    (values_in_turn, PARALLEL, LARGE_SIZES),
+    (parallel_everywhere, PARALLEL, LARGE_SIZES),
 )
 
 
@@ -564,7 +564,7 @@ def expect(answer, case, base, programs):
 
 def row(what, answer, model, case, base, timed):
     """Both programs, or ours alone of a model that is no tree where the other does not refuse that."""
-    programs = [program for program in PROGRAMS if answer not in (PARENT_OF_START, TWINS) or program not in WITHOUT_TREES]
+    programs = [program for program in PROGRAMS if answer not in (PARENT_OF_START, PARALLEL) or program not in WITHOUT_TREES]
     expect(answer, case, base, programs)
     ours, *other = (instructions(program, case) - instructions(program, base) for program in programs)
     theirs = ratio = median = spread = ""

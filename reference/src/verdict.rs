@@ -30,7 +30,7 @@ pub enum Reason {
     /// The start has a Parent, so it could be reached again.
     StartHasParent = 13,
     /// Two edges of a node lead to the same destination.
-    TwinEdges = 14,
+    ParallelEdges = 14,
     PacketTooLong = 21,
     PacketMalformed = 22,
     PacketComponents = 23,
@@ -112,7 +112,7 @@ pub fn load(bytes: &[u8]) -> Result<Model<'_>, Refusal> {
     test_parents(&model)?;
     test_calls(&model)?;
     test_start_parent(&model)?;
-    test_twins(&model)?;
+    test_parallel_edges(&model)?;
     Ok(model)
 }
 
@@ -227,8 +227,8 @@ fn test_start_parent(model: &Model) -> Result<(), Refusal> {
     })
 }
 
-fn test_twins(model: &Model) -> Result<(), Refusal> {
-    refuse_first(model, Reason::TwinEdges, |_, node| {
+fn test_parallel_edges(model: &Model) -> Result<(), Refusal> {
+    refuse_first(model, Reason::ParallelEdges, |_, node| {
         let mut destinations: Vec<u64> = node.destinations().collect();
         destinations.sort_unstable();
         destinations.windows(2).any(|pair| pair[0] == pair[1])

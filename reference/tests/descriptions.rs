@@ -362,12 +362,15 @@ fn refusals_with_their_nodes() {
     assert_eq!(model(0, &[good.clone(), two_terms]), "refused 10 1");
     assert_eq!(model(0, &[good.clone(), edge(1, 0, &[0])]), "refused 11 1");
     let child = |id: u64| vec![id, 1, 1, 0, 0, 0, 0];
-    let twins = vec![1, 0, 0, 0, 2, 2, 1, 0, 2, 2, 0, 0];
+    let parallel = vec![1, 0, 0, 0, 2, 2, 1, 0, 2, 2, 0, 0];
     assert_eq!(
-        model(0, &[good.clone(), twins.clone(), child(2)]),
+        model(0, &[good.clone(), parallel.clone(), child(2)]),
         "refused 14 1"
     );
-    assert_eq!(model(2, &[good.clone(), twins, child(2)]), "refused 13 2");
+    assert_eq!(
+        model(2, &[good.clone(), parallel, child(2)]),
+        "refused 13 2"
+    );
     assert_eq!(
         model(0, &[vec![0, 1, u64::MAX, 0, 0, 0, 0]]),
         "refused 13 0"

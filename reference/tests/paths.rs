@@ -172,7 +172,7 @@ fn ordinals_of_many_edges() {
     assert_eq!(answer([256, 254]), "no");
 }
 
-/// So many edges that their ordinals would need both bytes are twins.
+/// So many edges that their ordinals would need both bytes are parallel.
 #[test]
 fn edges_for_which_a_byte_is_too_small() {
     let mut edges = vec![value_edge(1, "k")];

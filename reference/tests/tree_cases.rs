@@ -1,5 +1,5 @@
 //! Generated models: those that are accepted are trees where a walk goes, of many
-//! shapes, and starts with a Parent and twin edges come up in every form.
+//! shapes, and starts with a Parent and parallel edges come up in every form.
 
 use std::collections::{BTreeMap, BTreeSet};
 
@@ -143,7 +143,7 @@ fn has_equal_values(node: &Node) -> bool {
 
 /// The kinds of two edges of a node to one destination, and how they stand.
 #[derive(Default)]
-struct Twins {
+struct Parallel {
     kinds: BTreeSet<&'static str>,
     adjacent: bool,
     /// With at least ten edges between them.
@@ -152,28 +152,30 @@ struct Twins {
     three: bool,
 }
 
-impl Twins {
+impl Parallel {
     fn of(node: &Node) -> Self {
         let destinations: Vec<u64> = node.destinations().collect();
         let values = node.value_edges.len();
-        let mut twins = Twins::default();
+        let mut parallel = Parallel::default();
         for second in 0..destinations.len() {
             let to = destinations[second];
             let earlier = (0..second).filter(|&first| destinations[first] == to);
             for first in earlier.clone() {
-                twins.kinds.insert(match (first < values, second < values) {
-                    (_, true) => "two ValueEdges",
-                    (false, _) => "two PatternEdges",
-                    _ => "one of each",
-                });
-                twins.adjacent |= second == first + 1;
-                twins.far_apart |= second > first + 10;
-                twins.first_and_last |=
+                parallel
+                    .kinds
+                    .insert(match (first < values, second < values) {
+                        (_, true) => "two ValueEdges",
+                        (false, _) => "two PatternEdges",
+                        _ => "one of each",
+                    });
+                parallel.adjacent |= second == first + 1;
+                parallel.far_apart |= second > first + 10;
+                parallel.first_and_last |=
                     first == 0 && second + 1 == destinations.len() && second > 2;
             }
-            twins.three |= earlier.count() > 1;
+            parallel.three |= earlier.count() > 1;
         }
-        twins
+        parallel
     }
 
     fn are_there(&self) -> bool {
@@ -181,11 +183,16 @@ impl Twins {
     }
 }
 
-fn count_twins(counts: &mut Counts, model: &Model, index: usize) {
-    let of_nodes: Vec<Twins> = model.nodes.iter().map(Twins::of).collect();
+fn count_parallel(counts: &mut Counts, model: &Model, index: usize) {
+    let of_nodes: Vec<Parallel> = model.nodes.iter().map(Parallel::of).collect();
     let first = &of_nodes[index];
-    assert!(of_nodes[..index].iter().all(|twins| !twins.are_there()));
-    let with_twins = of_nodes.iter().filter(|twins| twins.are_there()).count();
+    assert!(of_nodes[..index]
+        .iter()
+        .all(|parallel| !parallel.are_there()));
+    let with_parallel = of_nodes
+        .iter()
+        .filter(|parallel| parallel.are_there())
+        .count();
     let has = |kind: &str| first.kinds.contains(kind);
     let edges = model.nodes[index].edges().count();
     count(
@@ -199,7 +206,7 @@ fn count_twins(counts: &mut Counts, model: &Model, index: usize) {
             ("14: the first and the last", first.first_and_last),
             ("14: three to one destination", first.three),
             ("14: only two edges", edges == 2),
-            ("14: at several nodes", with_twins > 1),
+            ("14: at several nodes", with_parallel > 1),
             ("14: at node 0", index == 0),
             ("14: at another node", index > 0),
             ("14: not at the start", index as u64 != model.start),
@@ -214,7 +221,10 @@ fn count_start(counts: &mut Counts, model: &Model, index: usize) {
     let leads_back = is_destination(model, start.id);
     let is_child = start.destinations().any(|id| id == parent);
     let is_node = parent < model.nodes.len() as u64;
-    let has_twins = model.nodes.iter().any(|node| Twins::of(node).are_there());
+    let has_parallel = model
+        .nodes
+        .iter()
+        .any(|node| Parallel::of(node).are_there());
     count(
         counts,
         &[
@@ -233,7 +243,7 @@ fn count_start(counts: &mut Counts, model: &Model, index: usize) {
             ("13: no node", !is_node),
             ("13: node 0", index == 0),
             ("13: not node 0", index > 0),
-            ("13: with 14", has_twins),
+            ("13: with 14", has_parallel),
             (
                 "13: no other node has a Parent",
                 model
@@ -249,7 +259,10 @@ fn count_start(counts: &mut Counts, model: &Model, index: usize) {
 
 /// What else is wrong with models that are refused with 11 or 12.
 fn count_others(counts: &mut Counts, model: &Model, number: u8) {
-    let has_twins = model.nodes.iter().any(|node| Twins::of(node).are_there());
+    let has_parallel = model
+        .nodes
+        .iter()
+        .any(|node| Parallel::of(node).are_there());
     let has_parent = model.nodes[model.start as usize].parent.is_some();
     let from_two_nodes = (0..model.nodes.len() as u64).any(|id| {
         let leads = |node: &&Node| node.destinations().any(|to| to == id);
@@ -259,19 +272,19 @@ fn count_others(counts: &mut Counts, model: &Model, number: u8) {
         counts,
         &[
             ("11: with 13", number == 11 && has_parent),
-            ("11: with 14", number == 11 && has_twins),
+            ("11: with 14", number == 11 && has_parallel),
             (
                 "11: edges of two nodes to one",
                 number == 11 && from_two_nodes,
             ),
             ("12: with 13", number == 12 && has_parent),
-            ("12: with 14", number == 12 && has_twins),
+            ("12: with 14", number == 12 && has_parallel),
         ],
     );
 }
 
 #[test]
-fn faults_of_the_start_and_twins_come_up_in_every_form() {
+fn faults_of_the_start_and_parallel_edges_come_up_in_every_form() {
     let mut counts = Counts::new();
     for index in 0..3 * MODELS {
         let bytes = sample(&mut Random::for_case(22, index)).bytes;
@@ -281,7 +294,7 @@ fn faults_of_the_start_and_twins_come_up_in_every_form() {
         let model = load_readable(&bytes);
         match (refusal.number(), model) {
             (13, Ok(model)) => count_start(&mut counts, &model, refusal.index),
-            (14, Ok(model)) => count_twins(&mut counts, &model, refusal.index),
+            (14, Ok(model)) => count_parallel(&mut counts, &model, refusal.index),
             (number @ (11 | 12), Ok(model)) => count_others(&mut counts, &model, number),
             _ => {}
         }

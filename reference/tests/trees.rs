@@ -1,4 +1,4 @@
-//! No loops through the start and no twin edges: refusals 13 and 14, their nodes and
+//! No cycles through the start and no parallel edges: refusals 13 and 14, their nodes and
 //! their order; and the models that remain.
 
 mod build;
@@ -119,13 +119,13 @@ fn with_edges(edges: &[Vec<u8>]) -> String {
 }
 
 #[test]
-fn twins_of_both_kinds() {
+fn parallel_edges_of_both_kinds() {
     let value_to = |to| value_edge(to, "a");
     let pattern_to = |to| pattern_edge(to, 9, &[]);
     assert_eq!(with_edges(&[]), "accepted 5");
     let accepted = [value_to(2), value_to(1), pattern_to(4), pattern_to(3)];
     assert_eq!(with_edges(&accepted), "accepted 5");
-    for twins in [
+    for parallel in [
         vec![value_to(1), value_to(1)],
         vec![pattern_to(1), pattern_to(1)],
         vec![value_to(1), pattern_to(1)],
@@ -138,35 +138,35 @@ fn twins_of_both_kinds() {
         vec![pattern_to(4); 5],
         vec![value_to(1), value_to(2), pattern_to(1), pattern_to(2)],
     ] {
-        assert_eq!(with_edges(&twins), "refused 14 0");
+        assert_eq!(with_edges(&parallel), "refused 14 0");
     }
 }
 
 /// What else the edges have doesn't matter: neither what they have in common nor
 /// that one of them can't be crossed.
 #[test]
-fn twins_that_differ() {
+fn parallel_edges_that_differ() {
     let never = [constraint(&[])];
     let year = [constraint(&[call("$isValidYear", &[])])];
-    for twins in [
+    for parallel in [
         [value_edge(3, "a"), value_edge(3, "b")],
         [pattern_edge(3, 1, &[]), pattern_edge(3, 2, &[])],
         [pattern_edge(3, 1, &never), pattern_edge(3, 1, &year)],
         [value_edge(3, "2022"), pattern_edge(3, 128, &never)],
     ] {
-        assert_eq!(with_edges(&twins), "refused 14 0");
+        assert_eq!(with_edges(&parallel), "refused 14 0");
     }
     // the same destination in another width
     let wide = element(0x51, &[hex("25 04 00 00 00 03"), value("b")].concat());
     assert_eq!(with_edges(&[value_edge(3, "a"), wide]), "refused 14 0");
-    // edges that are equal but for their destination are no twins
+    // edges that are equal but for their destination are not parallel
     let alike = [value_edge(3, "a"), value_edge(4, "a"), open(1), open(2)];
     assert_eq!(with_edges(&alike), "accepted 5");
 }
 
 /// The first of 255 edges and the last, or any two.
 #[test]
-fn twins_far_apart() {
+fn parallel_edges_far_apart() {
     let with_destinations = |destinations: &[u64]| {
         let edges = destinations.iter().enumerate();
         let edges = edges.map(|(place, &to)| match place < 100 {
@@ -189,21 +189,21 @@ fn twins_far_apart() {
 /// The node is the one that has the edges, and the first of several; it may be one
 /// that the start doesn't lead to.
 #[test]
-fn the_first_node_with_twins_is_named() {
-    let with_twins = |faulty: &[u64]| {
+fn the_first_node_with_parallel_edges_is_named() {
+    let with_parallel = |faulty: &[u64]| {
         let count = |id: u64| if faulty.contains(&id) { 2 } else { 1 };
         let edges = |id: u64| vec![open(id + 4); count(id)];
         let mut nodes: Vec<Vec<u8>> = (0..4).map(|id| node(id, None, &edges(id))).collect();
         nodes.extend((0..4).map(|id| node(id + 4, Some(id), &[])));
         judged(&model(1, &nodes))
     };
-    assert_eq!(with_twins(&[]), "accepted 8");
-    assert_eq!(with_twins(&[0]), "refused 14 0");
-    assert_eq!(with_twins(&[1]), "refused 14 1");
-    assert_eq!(with_twins(&[3]), "refused 14 3");
-    assert_eq!(with_twins(&[2, 3]), "refused 14 2");
-    assert_eq!(with_twins(&[1, 3]), "refused 14 1");
-    assert_eq!(with_twins(&[3, 1, 2, 0]), "refused 14 0");
+    assert_eq!(with_parallel(&[]), "accepted 8");
+    assert_eq!(with_parallel(&[0]), "refused 14 0");
+    assert_eq!(with_parallel(&[1]), "refused 14 1");
+    assert_eq!(with_parallel(&[3]), "refused 14 3");
+    assert_eq!(with_parallel(&[2, 3]), "refused 14 2");
+    assert_eq!(with_parallel(&[1, 3]), "refused 14 1");
+    assert_eq!(with_parallel(&[3, 1, 2, 0]), "refused 14 0");
 }
 
 /// Edges of two nodes to one destination are 11, at the node that isn't its Parent.
@@ -235,7 +235,7 @@ struct Faults {
     /// The start has a Parent (13).
     start: bool,
     /// Node 1 leads to node 2 twice (14).
-    twins: bool,
+    parallel: bool,
 }
 
 fn with_faults(faults: Faults) -> String {
@@ -244,7 +244,7 @@ fn with_faults(faults: Faults) -> String {
         false => constraint(&[value("a")]),
     };
     let mut parts = vec![pattern_edge(2, 2, &[])];
-    if faults.twins {
+    if faults.parallel {
         parts.push(pattern_edge(2, 3, &[]));
     }
     parts.push(signer(if faults.signer { 4 } else { 3 }));
@@ -266,21 +266,21 @@ fn the_order_of_9_and_11_to_14() {
             parent: has(1),
             call: has(2),
             start: has(3),
-            twins: has(4),
+            parallel: has(4),
         };
         let expected = match faults {
             Faults { signer: true, .. } => "refused 9 1",
             Faults { parent: true, .. } => "refused 11 1",
             Faults { call: true, .. } => "refused 12 0",
             Faults { start: true, .. } => "refused 13 3",
-            Faults { twins: true, .. } => "refused 14 1",
+            Faults { parallel: true, .. } => "refused 14 1",
             _ => "accepted 4",
         };
         assert_eq!(with_faults(faults), expected, "{bits}");
     }
 }
 
-/// The start's own edges are twins, and it has a Parent.
+/// The start's own edges are parallel, and it has a Parent.
 #[test]
 fn both_faults_of_one_node() {
     let nodes = |parent| {
@@ -299,7 +299,7 @@ fn both_faults_of_one_node() {
 #[test]
 fn all_calls_refuse_with_the_same_numbers() {
     let with_parent = model(1, &[node(0, None, &[]), node(1, Some(0), &[])]);
-    let with_twins = model(
+    let with_parallel = model(
         0,
         &[
             node(0, None, &[]),
@@ -307,7 +307,10 @@ fn all_calls_refuse_with_the_same_numbers() {
             node(2, Some(1), &[]),
         ],
     );
-    for (model, refused) in [(with_parent, "refused 13 1"), (with_twins, "refused 14 1")] {
+    for (model, refused) in [
+        (with_parent, "refused 13 1"),
+        (with_parallel, "refused 14 1"),
+    ] {
         for name in [name("/a"), hex(EMPTY_NAME), hex("07 01"), vec![0; 1_025]] {
             let (mut words, mut path) = ([7; 3], [7; 3]);
             assert_eq!(match_name(&model, &name, &mut words).to_string(), refused);

@@ -193,6 +193,6 @@ def refused():
     yield edge + "option $eq()\n", 12, 0, [(3, "node 0")]
     yield f"{head}node 0\nparent 0\n", 13, 0, [(3, "node 0")]
     yield f"node 0\n\nnode 1\n  parent {2**64 - 1}\nstart 1\npatterns 0\n", 13, 1, [(3, "node 1")]
-    twins = "edge value a to 2\nedge value b to 2"
-    yield f"{head}node 0\nnode 1 // x\n{twins}\nnode 2\nparent 1\n", 14, 1, [(4, "node 1")]
-    yield f"{head}node 0\n{twins}\nparent 0\nnode 1\nnode 2\nparent 0\n", 13, 0, [(3, "node 0")]
+    parallel = "edge value a to 2\nedge value b to 2"
+    yield f"{head}node 0\nnode 1 // x\n{parallel}\nnode 2\nparent 1\n", 14, 1, [(4, "node 1")]
+    yield f"{head}node 0\n{parallel}\nparent 0\nnode 1\nnode 2\nparent 0\n", 13, 0, [(3, "node 0")]

@@ -1,4 +1,5 @@
-"""No loops, no twins (request 8): refusals 13 and 14, and walks in the models that they leave, where the start's Nodes form a tree.
+"""No cycles through the start, no parallel edges (request 8): refusals 13 and 14; and walks in the models that they leave, whose Nodes that
+the start leads to form a tree.
 
 13 refuses a start that has a Parent, whatever that names. 14 refuses two edges of one Node to the same Node, whatever they take. Each Node of
 a model is tested, reachable or not, and the answer has the first at fault.
@@ -219,10 +220,10 @@ def widths():
 
 def other_elements():
     """Optional elements between edges and in them change nothing, and what looks like an edge in one is none."""
-    twins = model(node(0, value_edge(1, "a"), pattern_edge(1, 1, must_be("b")), signer(1)), node(1, parent(0)))
+    parallel = model(node(0, value_edge(1, "a"), pattern_edge(1, 1, must_be("b")), signer(1)), node(1, parent(0)))
     apart = model(node(0, value_edge(1, "a"), pattern_edge(2, 1, must_be("b")), signer(1)), node(1, parent(0)), node(2, parent(0)))
     spares = [bytes.fromhex(spare) for spare in OPTIONAL] + [element(0x80, each) for each in (node_id(1), value_edge(1, "c"), pattern_edge(1, 1))]
-    for what, of, answer in ("two edges to one Node", twins, "refused 14 0"), ("two edges to two Nodes", apart, "accepted 3"):
+    for what, of, answer in ("two edges to one Node", parallel, "refused 14 0"), ("two edges to two Nodes", apart, "accepted 3"):
         yield what, of, answer
         for spare in spares:
             yield f"{what}, {spare.hex()} in every gap", put_everywhere(of, spare), answer
@@ -271,7 +272,7 @@ def which_node():
 
 
 def different_nodes():
-    """Edges of two Nodes to one are no twins: 11, at the one that is not its Parent."""
+    """Edges of two Nodes to one are not parallel: 11, at the one that is not its Parent."""
     for what, edges in TWO_EDGES.items():
         first, second = edges(2, 2)
         for up in (0, 1):
@@ -313,23 +314,23 @@ def many_edges():
 def both():
     """13 comes before 14, wherever each of them is; both come behind the others."""
     for what, edges in TWO_EDGES.items():
-        twins = edges(1, 1)
-        yield f"{what}, and a Parent of the start", model(node(0, parent(0), *twins), node(1, parent(0)), patterns=1), "refused 13 0"
-        behind = model(node(0), node(1, parent(2)), node(2, *twins), node(3, parent(2)), start=3, patterns=1)
+        parallel = edges(1, 1)
+        yield f"{what}, and a Parent of the start", model(node(0, parent(0), *parallel), node(1, parent(0)), patterns=1), "refused 13 0"
+        behind = model(node(0), node(1, parent(2)), node(2, *parallel), node(3, parent(2)), start=3, patterns=1)
         yield f"{what} before a start with a Parent", behind, "refused 13 3"
-        before = model(node(0, parent(2)), node(1, parent(2)), node(2, *twins), patterns=1)
+        before = model(node(0, parent(2)), node(1, parent(2)), node(2, *parallel), patterns=1)
         yield f"{what} behind a start with a Parent", before, "refused 13 0"
         # the destination's Parent is another Node, or there is no such Node
-        yield f"{what} to a Node with another Parent", model(node(0, *twins), node(1, parent(1)), patterns=1), "refused 11 0"
-        yield f"{what} to a Node without a Parent", model(node(0, *twins), node(1), patterns=1), "refused 11 0"
-        yield f"{what} to the Node itself", model(node(0), node(1, parent(0), *twins), patterns=1), "refused 11 1"
-        yield f"{what} to the Node itself, which is its own Parent", model(node(0), node(1, parent(1), *twins), patterns=1), "refused 14 1"
-        yield f"{what} to no Node", model(node(0, *twins), patterns=1), "refused 8 0"
-        yield f"{what} to no Node, and a Parent of the start", model(node(0, parent(0), *twins), patterns=1), "refused 8 0"
-        yield f"{what}, and another with no Node in the last", model(node(0, *twins), node(1, parent(0), value_edge(9, "x"))), "refused 8 1"
-        yield f"{what}, another version", model(node(0, *twins), node(1, parent(0)), version=0x00012000), "refused 3 0"
-        yield f"{what}, and no StartId", model(node(0, *twins), node(1, parent(0)), start=2), "refused 7 0"
-        cut = faulty(node(0, *twins)[:-1])
+        yield f"{what} to a Node with another Parent", model(node(0, *parallel), node(1, parent(1)), patterns=1), "refused 11 0"
+        yield f"{what} to a Node without a Parent", model(node(0, *parallel), node(1), patterns=1), "refused 11 0"
+        yield f"{what} to the Node itself", model(node(0), node(1, parent(0), *parallel), patterns=1), "refused 11 1"
+        yield f"{what} to the Node itself, which is its own Parent", model(node(0), node(1, parent(1), *parallel), patterns=1), "refused 14 1"
+        yield f"{what} to no Node", model(node(0, *parallel), patterns=1), "refused 8 0"
+        yield f"{what} to no Node, and a Parent of the start", model(node(0, parent(0), *parallel), patterns=1), "refused 8 0"
+        yield f"{what}, and another with no Node in the last", model(node(0, *parallel), node(1, parent(0), value_edge(9, "x"))), "refused 8 1"
+        yield f"{what}, another version", model(node(0, *parallel), node(1, parent(0)), version=0x00012000), "refused 3 0"
+        yield f"{what}, and no StartId", model(node(0, *parallel), node(1, parent(0)), start=2), "refused 7 0"
+        cut = faulty(node(0, *parallel)[:-1])
         yield f"{what}, cut", model(cut), refused_at(model(cut))
 
 

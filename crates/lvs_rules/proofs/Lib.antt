@@ -5,6 +5,6 @@ pub mod Pass
 pub mod Nodes
 pub mod Verdict
 pub mod Loops
-pub mod Twins
+pub mod Parallel
 pub mod Items
 pub mod Whole

@@ -13,7 +13,8 @@ use lib.ListN.{length, getElem?, length-map}
 use Rattle.tlv.specs.Lists.{each, twice}
 use Rattle.lvs_spec.specs.Limits.{maxNodes}
 use Rattle.lvs_spec.specs.Model.{Model, Node, PatternEdge, Symbol, Constraint, ConstraintOption, Term, Call, Argument}
-use Rattle.lvs_spec.specs.Verdict.{rules, destinations, options, terms, callsIn, calls, argumentTags, termTags, nodeTags, namesNone, startHasParent, twins}
+use Rattle.lvs_spec.specs.Verdict.{rules, destinations, options, terms, callsIn, calls, argumentTags, termTags, nodeTags, namesNone}
+use Rattle.lvs_spec.specs.Verdict.{startHasParent, parallelEdges}
 use Rattle.lvs_rules.specs.Lowest.{noRule, broken, leastOf, tagRule, argumentRule, argumentsRule, callRule, termRule, termsRule, optionRule}
 use Rattle.lvs_rules.specs.Lowest.{constraintRule}
 use Rattle.lvs_rules.specs.Lowest.{parentIndex, namedRule, ownRule, rootRule, destinationRule, destinationsRule, patternEdgeRule}
@@ -33,7 +34,7 @@ module _ (m : Model) where
   node-row : (i : ℕ) (n : Node) → getElem? (m .nodes) i ≡ some n
       → min (ownRule i n) (min (rootRule (map parentIndex (m .nodes)) i (m .start)) (broken 14 (twice (destinations n)))) ≡
       firstRow (λ a. a .node i n) (rules m)
-  unfolding ownRule rules broken twins
+  unfolding ownRule rules broken parallelEdges
   node-row i n h = rw (root-is m i n h) (go (not (eqb (n .id) i)) (startHasParent m i n) (twice (destinations n)))
     where
       go : (a b c : Bool) → min (cond a 6 noRule) (min (cond b 13 noRule) (cond c 14 noRule)) ≡ cond a 6 (cond b 13 (cond c 14 noRule))

@@ -39,7 +39,7 @@ pub(crate) fn destinations_rule(node: &[u8], i: u32, parents: &[u32]) -> u32
                     VALUE_EDGE | PATTERN_EDGE => {
                         let d = tlv::number_in(&node[start..end], NODE_ID);
                         let own = destination_rule(d, i, parents);
-                        rule = lower(rule, lower(own, twin_rule(&mut seen, d)));
+                        rule = lower(rule, lower(own, parallel_rule(&mut seen, d)));
                     }
                     _ => {}
                 }
@@ -69,8 +69,8 @@ fn destination_rule(d: u64, i: u32, parents: &[u32]) -> u32
     NO_RULE
 }
 
-// Rule 14: no edge before leads there. `seen` says where those before lead.
-fn twin_rule(seen: &mut [bool; lvs_spec::MAX_NODES], d: u64) -> u32
+// Rule 14: no edge before leads there, so that no two of a Node are parallel. `seen` says where those before lead.
+fn parallel_rule(seen: &mut [bool; lvs_spec::MAX_NODES], d: u64) -> u32
     requires { ⌜ length (now seen) ≡ maxNodes ⌝ }
     ensures { λ r. ⌜ Noted (now (seen .entry)) d r (now (seen .exit)) ⌝ }
 {

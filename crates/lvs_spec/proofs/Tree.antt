@@ -10,7 +10,8 @@ use lib.Dec.{leb, eqb}
 use lib.ListN.{length, getD, getElem?, List·getD-eq-default}
 use Rattle.tlv.specs.Lists.{bind, any, is, isSome, member, twice}
 use Rattle.lvs_spec.specs.Model.{Model, Node, Edge, destination, edges, noNode, nodeAt, modelOf}
-use Rattle.lvs_spec.specs.Verdict.{Verdict, Test, destinations, namesNone, notParent, startHasParent, twins, firstFault, fault, rules, judge, verdict}
+use Rattle.lvs_spec.specs.Verdict.{Verdict, Test, destinations, namesNone, notParent, startHasParent, parallelEdges}
+use Rattle.lvs_spec.specs.Verdict.{firstFault, fault, rules, judge, verdict}
 use Rattle.lvs_spec.specs.Walk.{Binding, Bindings, bindingsAfter, Match, begin, cross, matches, follow}
 use Rattle.lvs_spec.specs.Tree.{arrive, Reaches, Leads, IsTree}
 use Rattle.lvs_spec.proofs.Lists.{clash, bind-from, getElem-in, getElem-lt, getElem-getD, getElem-map}
@@ -114,8 +115,8 @@ module _ (m : Model) where
   unfolding startHasParent
   root-kept h = none-there _ (rw (eq-eqb (m .start) (m .start) refl) at h)
 
-  single-kept : (v i j d : ℕ) → twins (nodeAt m v) ≡ false → Leads m v i d → Leads m v j d → i ≡ j
-  unfolding twins
+  single-kept : (v i j d : ℕ) → parallelEdges (nodeAt m v) ≡ false → Leads m v i d → Leads m v j d → i ≡ j
+  unfolding parallelEdges
   single-kept v i j d h a b = one-place (destinations (nodeAt m v)) h i j a b
 
   lawful : {n : ℕ} → judge m ≡ Verdict.accepted n → Lawful m
@@ -130,7 +131,7 @@ module _ (m : Model) where
         inside = λ v i d l. has-node d (led-past (λ i d. namesNone m d) (from7 .1 .0) v i d l);
         child = λ v i d l. child-kept v d (led-past (notParent m) (from11 .0) v i d l);
         root = root-kept (not-at-fault (startHasParent m) (from13 .0) (m .start) start);
-        single = λ v i j d a b. single-kept v i j d (not-at-fault (λ i n. twins n) (from13 .1 .0) v (leads-inside m v i d a)) a b;
+        single = λ v i j d a b. single-kept v i j d (not-at-fault (λ i n. parallelEdges n) (from13 .1 .0) v (leads-inside m v i d a)) a b;
       }
 
 -- ---- paths grow at their end

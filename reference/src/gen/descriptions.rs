@@ -269,7 +269,7 @@ fn plan_of_one_text(random: &mut Random) -> Plan {
 }
 
 /// Very many of one thing, in the first of two nodes. Many edges between the two are
-/// twins, and refused.
+/// parallel edges, and refused.
 fn crowded_plan(random: &mut Random) -> Plan {
     if random.chance(25) {
         return plan_of_wide_node(random);

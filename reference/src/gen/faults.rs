@@ -42,7 +42,7 @@ fn plant_once(random: &mut Random, plan: &mut Plan, number: u8) {
         11 => spoil_parent(random, plan),
         12 => spoil_call(random, plan),
         13 => give_start_a_parent(random, plan),
-        14 => plant_twins(random, plan),
+        14 => plant_parallel_edges(random, plan),
         _ => {}
     }
 }
@@ -394,7 +394,7 @@ fn any_place(random: &mut Random, count: usize) -> usize {
 }
 
 /// Lets two edges of a node, or more, lead to the same destination.
-fn plant_twins(random: &mut Random, plan: &mut Plan) {
+fn plant_parallel_edges(random: &mut Random, plan: &mut Plan) {
     let indexes = 0..plan.nodes.len();
     let mut with_edges: Vec<usize> = indexes
         .filter(|&index| plan.nodes[index].destinations().next().is_some())
@@ -407,11 +407,11 @@ fn plant_twins(random: &mut Random, plan: &mut Plan) {
         add_leaves(random, plan, index);
     }
     for _ in 0..random.weighted(&[(75, 1), (15, 2), (10, 5)]) {
-        add_twin(random, &mut plan.nodes[index]);
+        add_parallel_edge(random, &mut plan.nodes[index]);
     }
 }
 
-/// Gives a node more children, so that there is room between twins.
+/// Gives a node more children, so that there is room between parallel edges.
 fn add_leaves(random: &mut Random, plan: &mut Plan, index: usize) {
     let most = MAX_NODES.saturating_sub(plan.nodes.len());
     for _ in 0..random.between(1, 40).min(most) {
@@ -422,7 +422,7 @@ fn add_leaves(random: &mut Random, plan: &mut Plan, index: usize) {
 
 /// Adds an edge to where another one of the node leads, or lets one lead there that
 /// led elsewhere.
-fn add_twin(random: &mut Random, node: &mut NodePlan) {
+fn add_parallel_edge(random: &mut Random, node: &mut NodePlan) {
     let destinations: Vec<u64> = node.destinations().collect();
     let destination = destinations[any_place(random, destinations.len())];
     let values = node.value_edges.iter_mut();

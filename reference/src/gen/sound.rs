@@ -11,14 +11,14 @@ use super::random::Random;
 use crate::verdict::MAX_NODES;
 
 /// How the nodes that the start leads to hang together. They form a tree; three of
-/// the shapes are drawn as graphs with twin edges or loops, and then unrolled.
+/// the shapes are drawn as graphs with parallel edges or loops, and then unrolled.
 #[derive(Clone, Copy, Debug)]
 enum Shape {
     Few,
     Chain,
     Fan,
     Tree,
-    /// Few nodes with twin edges, few Tags: unrolled, much going back.
+    /// Few nodes with parallel edges, few Tags: unrolled, much going back.
     Dense,
     /// Any node may be any node's parent, its own too: unrolled, the same edges
     /// over and over.
@@ -232,7 +232,7 @@ fn graph(random: &mut Random, shape: Shape) -> Plan {
     plan
 }
 
-/// A graph without loops or twin edges, at times with another node than its root as
+/// A graph without loops or parallel edges, at times with another node than its root as
 /// the start.
 fn tree(random: &mut Random, shape: Shape) -> Plan {
     let mut plan = graph(random, shape);
@@ -266,7 +266,7 @@ fn add_dead_ends(random: &mut Random, plan: &mut Plan, parameters: &mut EdgePara
 }
 
 /// The tree of the paths that lead from a graph's start, short ones first, as far
-/// as so many nodes go. Twin edges become siblings that look alike, and a loop
+/// as so many nodes go. Parallel edges become siblings that look alike, and a loop
 /// becomes a branch on which the same edges come again.
 fn unrolled(random: &mut Random, graph: &Plan) -> Plan {
     let most = *random.pick(&UNROLLED);

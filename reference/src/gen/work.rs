@@ -4,7 +4,7 @@
 //! looks at no more, whatever its Tags and Constraints shut. In an accepted model
 //! that is no more than its edges, once for each name that is walked. But faulty
 //! names and models are counted as if they were sound, so that a checker that
-//! refuses too little comes to an end as well: twin edges double the paths, and
+//! refuses too little comes to an end as well: parallel edges double the paths, and
 //! on a loop through the start they do so at each turn.
 
 use super::models::Sample;

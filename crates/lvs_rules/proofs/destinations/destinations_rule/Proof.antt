@@ -5,7 +5,7 @@ use mathlib.Core.Path.{refl}
 use lib.ListN.{length}
 use Rattle.tlv.proofs.Cuts.{seen, SeenOf}
 use Rattle.tlv.proofs.Gathered.{stop-end, stop-malformed}
-use Rattle.lvs_rules.proofs.Twins.{Led, none-led, led-more, led-past, led-end}
+use Rattle.lvs_rules.proofs.Parallel.{Led, none-led, led-more, led-past, led-end}
 use borrow.Author.Needs.{needs}
 use Rattle.lvs_rules.proofs.destinations.destinations_rule.Statement.{statement}
 use Rattle.lvs_rules.proofs.destinations.destinations_rule.Tie as tie
@@ -33,8 +33,8 @@ part-number-in-start c = omega (arith, step (c .before .before))
 part-number-in-end : tie.Need-part-number-in-end Inv-loop μ-loop
 part-number-in-end c = omega (arith, step (c .before .before))
 
-twin-rule-requires : tie.Need-twin-rule-requires Inv-loop μ-loop
-twin-rule-requires c κs =
+parallel-rule-requires : tie.Need-parallel-rule-requires Inv-loop μ-loop
+parallel-rule-requires c κs =
     let edge = c .before .before .before .before in
     let turn = edge .before .before in
     turn .before .before .before .loop .inv .size
@@ -52,7 +52,7 @@ loop-again c =
     let loop = turn .before .before .before in
     led-more (loop .loop .inv) (step turn) (loop .before .before .before .pre) (edge .match2 .keys1) (own .before .number-in .ensures)
     (own .destination-rule .ensures)
-    (c .before .before .twin-rule .ensures)
+    (c .before .before .parallel-rule .ensures)
     (c .before .lower .ensures)
     (c .lower2 .ensures)
 
@@ -84,7 +84,7 @@ destinations-rule-spec =
     part-number-in-end
     (λ c κs. search needs)
     (λ c κs. search needs)
-    twin-rule-requires
+    parallel-rule-requires
     (λ c κs. search needs)
     (λ c κs. search needs)
     loop-less

@@ -233,8 +233,8 @@ module _ {parents : List ℕ} {i : ℕ} {s : List ℕ} where
             kept = inv .kept;
           }
 
-      pub led-more : length parents ≤ maxNodes → IsEdge t → {d own twin x rule′ : ℕ} {seen′ : List Bool} → d ≡ to (take (stop - start) (drop start s))
-          → own ≡ destinationRule parents i d → Noted seen d twin seen′ → x ≡ min own twin
+      pub led-more : length parents ≤ maxNodes → IsEdge t → {d own again x rule′ : ℕ} {seen′ : List Bool} → d ≡ to (take (stop - start) (drop start s))
+          → own ≡ destinationRule parents i d → Noted seen d again seen′ → x ≡ min own again
           → rule′ ≡ min rule x → Led parents i s (n .at) rule′ seen′
       led-more few h {d} f o w x r =
           record {
