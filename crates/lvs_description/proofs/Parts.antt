@@ -20,7 +20,8 @@ use Rattle.lvs_spec.specs.Grammar.{Kind, Known, Item, meaning, order, step, fin
 use Rattle.lvs_spec.specs.WellFormed.{insideOk, wellFormedBy}
 use Rattle.lvs_spec.proofs.Grammar.{both, neither, eachCut-nexts, Ordered}
 use Rattle.lvs_spec.proofs.Bare.{Small, Good, held}
-use Rattle.lvs_spec.proofs.Lists.{each-append, any-append}
+use Rattle.tlv.proofs.Gathered.{any-append}
+use Rattle.lvs_spec.proofs.Lists.{each-append}
 use Rattle.lvs_description.specs.Format.{Format, holds, _then_, under, many, maybe}
 use Rattle.lvs_description.proofs.Rows.{Short, short-left, short-right, inside-short, all-formed, all-back, map-each}
 use Rattle.lvs_description.proofs.Rows.{apart, disjoint, distinct, not-member, Found, found, heavy, weight, weight-append, weight-le}

@@ -2,20 +2,25 @@
 -- Assumes nothing.
 use mathlib.Core.Path.{_≡_, refl, sym, _∙_}
 use mathlib.Core.Bool.{Bool, true, false, cond, not}
-use mathlib.Core.List.{List, [], _∷_, map}
+use mathlib.Core.List.{List, map}
 use mathlib.Core.Option.{Option, none, some, Option·some-injective}
-use Prim.Native.Nat.{ℕ, zero, suc, _≤_, _<_}
-use native.Mathlib.Nat.{not-suc-le-zero}
+use Prim.Native.Nat.{ℕ, _≤_, _<_}
 use native.Mathlib.Omega.{arith}
 use borrow.Author.Tests.{eq-eqb, ne-eqb, le-leb, lt-leb, ltb-true, ltb-false, leb-false}
 use lib.Dec.{leb, ltb, eqb}
 use lib.ListN.{length, getD, getElem?, length-map}
 use Rattle.tlv.specs.Lists.{bind, is, isSome}
 use Rattle.lvs_spec.specs.Limits.{maxNodes}
-use Rattle.lvs_spec.specs.Model.{Model, Node}
+use Rattle.lvs_spec.specs.Model.{Model, Node, noNode}
 use Rattle.lvs_spec.specs.Verdict.{namesNone, notParent, startHasParent}
 use Rattle.lvs_spec.proofs.Lists.{getElem-map, getElem-getD, getElem-lt}
 use Rattle.lvs_rules.specs.Lowest.{noRule, broken, noParent, parentFrom, parentIndex, rootRule, destinationRule}
+
+-- the word of a Node
+word-of : (ns : List Node) (i : ℕ) {n : Node} → getElem? ns i ≡ some n → getD (map parentIndex ns) i 0 ≡ parentIndex n
+word-of ns i {n} h =
+    let there = getElem-map parentIndex ns i h in
+    sym (Option·some-injective _ _ (sym there ∙ getElem-getD (map parentIndex ns) i 0 (getElem-lt (map parentIndex ns) i there)))
 
 module _ {i : ℕ} (small : i < maxNodes) where
   same-parent : (o : Option ℕ) → eqb i (parentFrom o) ≡ is (eqb i) o
@@ -31,9 +36,9 @@ module _ {i : ℕ} (small : i < maxNodes) where
 
   parent-at : (ns : List Node) (d : ℕ) → d < length ns → eqb i (getD (map parentIndex ns) d 0) ≡ is (eqb i) (bind (getElem? ns d) (λ n. n .parent))
   unfolding parentIndex
-  parent-at [] d h = absurd (not-suc-le-zero h)
-  parent-at (n ∷ ns) zero h = same-parent (n .parent)
-  parent-at (n ∷ ns) (suc d) h = parent-at ns d (omega arith)
+  parent-at ns d h =
+      let there = getElem-getD ns d noNode h in
+      rw (word-of ns d there, there) (same-parent (getD ns d noNode .parent))
 
 -- ---- what the code finds at a destination
 
@@ -75,12 +80,6 @@ word-tells (some p) = go (ltb p maxNodes) refl
     go : (t : Bool) → ltb p maxNodes ≡ t → not (eqb (cond t p maxNodes) noParent) ≡ true
     go true q = let l = ltb-true p maxNodes q in rw (ne-eqb p noParent (λ e. omega arith))
     go false q = refl
-
--- the word of a Node
-word-of : (ns : List Node) (i : ℕ) {n : Node} → getElem? ns i ≡ some n → getD (map parentIndex ns) i 0 ≡ parentIndex n
-word-of ns i {n} h =
-    let there = getElem-map parentIndex ns i h in
-    sym (Option·some-injective _ _ (sym there ∙ getElem-getD (map parentIndex ns) i 0 (getElem-lt (map parentIndex ns) i there)))
 
 pub root-is : (m : Model) (i : ℕ) (n : Node) → getElem? (m .nodes) i ≡ some n
     → rootRule (map parentIndex (m .nodes)) i (m .start) ≡ broken 13 (startHasParent m i n)

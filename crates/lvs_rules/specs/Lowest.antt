@@ -75,7 +75,7 @@ ownRule i n = broken 6 (not (eqb (n .id) i))
 unfoldable pub patternEdgeRule : PatternEdge → ℕ
 patternEdgeRule e = min (tagRule (e .tag)) (leastOf constraintRule (e .constraints))
 
--- `parents` has each Node's Parent, so its length is the number of Nodes
+-- `parents` has each Node's Parent, so its length is the number of Nodes; i is the index of the Node at hand
 module _ (parents : List ℕ) (i : ℕ) where
   -- of its own Parent
   unfoldable pub rootRule : ℕ → ℕ

@@ -15,9 +15,10 @@ use lvs_spec::types::PARENT;
 use tlv::Place;
 use tlv::Read;
 
-// No Node's index: a Parent that names none, and the word of a Node that has no Parent.
+// No Node's index: the word for a Parent that names no Node.
 const NO_NODE: u32 = lvs_spec::MAX_NODES as u32;
 
+// Nor is this: the word of a Node that has no Parent.
 const NO_PARENT: u32 = NO_NODE + 1;
 
 // Each Node's Parent, by the Node's index.

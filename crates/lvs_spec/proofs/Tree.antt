@@ -9,14 +9,14 @@ use borrow.Author.Tests.{leb-true, leb-false, eqb-true, eqb-false, eq-eqb, not-f
 use lib.Dec.{leb, eqb}
 use lib.ListN.{length, getD, getElem?, List·getD-eq-default}
 use Rattle.tlv.specs.Lists.{bind, any, is, isSome, member, twice}
-use Rattle.lvs_spec.specs.Model.{Model, Node, Edge, destination, edges, noNode, nodeAt, modelOf}
+use Rattle.lvs_spec.specs.Model.{Model, Node, destination, edges, noNode, nodeAt, modelOf}
 use Rattle.lvs_spec.specs.Verdict.{Verdict, Test, destinations, namesNone, notParent, startHasParent, parallelEdges}
 use Rattle.lvs_spec.specs.Verdict.{firstFault, fault, rules, judge, verdict}
-use Rattle.lvs_spec.specs.Walk.{Binding, Bindings, bindingsAfter, Match, begin, cross, matches, follow}
+use Rattle.lvs_spec.specs.Walk.{Binding, Bindings, Match, begin, matches, follow}
 use Rattle.lvs_spec.specs.Tree.{arrive, Reaches, Leads, IsTree}
 use Rattle.lvs_spec.proofs.Lists.{clash, bind-from, getElem-in, getElem-lt, getElem-getD, getElem-map}
 use Rattle.lvs_spec.proofs.Grammar.{neither}
-use Rattle.lvs_spec.proofs.Trace.{cross-path, Keeps, walk-keeps}
+use Rattle.lvs_spec.proofs.Trace.{cross-node, cross-path, Keeps, walk-keeps}
 use Rattle.lvs_spec.proofs.Follow.{way-follow, own-way}
 use Rattle.lvs_spec.proofs.Rules.{judge-kept}
 use Rattle.lvs_spec.proofs.Reading.{accepted-judged}
@@ -228,13 +228,6 @@ pub accepted-tree : (b : List ℕ) {n : ℕ} → verdict b ≡ Verdict.accepted 
 accepted-tree b h = judged-tree (modelOf b) (accepted-judged b h)
 
 -- ---- the walk in it
-
--- a crossing leads to its edge's destination
-cross-node : (m : Model) (c : Binding) (x : Match) (i : ℕ) (e : Edge) {y : Match} → cross m c x i e ≡ some y → y .node ≡ destination e
-unfolding cross
-cross-node m c x i e {y} h =
-    let (s, _, k) = bind-from (bindingsAfter (m .patternCount) (x .bindings) c e) _ h in
-    ap (λ (z : Match). z .node) (sym (Option·some-injective _ y k))
 
 module _ (m : Model) (cs : List Binding) (s : Bindings) where
   -- a match's path reaches its Node
