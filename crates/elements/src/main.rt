@@ -2,6 +2,8 @@
 //
 // A line is TYPE START END in decimal, where START to END is the element's inside. The last line is
 // `end`, or `malformed at PLACE` for the place where no element begins. The insides are not read.
+#![tactic(auto)]
+
 use libc::{STDIN_FILENO, STDOUT_FILENO};
 use tlv::{Place, Read};
 

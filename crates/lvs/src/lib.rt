@@ -1,4 +1,6 @@
 // The calls that search: matching, signing and suggesting, on slices. Any bytes have an answer, and no call relies on an earlier one.
+#![tactic(auto)]
+
 ghost use Rattle.std.specs.Prelude.{◌≡◌};
 ghost use Rattle.lvs_spec.specs.Answers.{match_outcome, sign_outcome};
 ghost use Rattle.lvs_spec.specs.Certificates.{suggest_answer};

@@ -2,6 +2,8 @@
 // that a caller gets.
 //
 // A layer below the public calls: `requires` asks for words that the calls have made themselves, and for places and sizes that fit a word.
+#![tactic(auto)]
+
 ghost use Rattle.std.specs.Prelude.{◌≡◌, cond, ◌+◌, ◌*◌, ◌≤◌, ◌<◌, eqb, length};
 ghost use Rattle.lvs_spec.specs.Limits.{max_tag, binding_words};
 ghost use Rattle.lvs_bindings.specs.Slots.{Room, SlotOf, text_from, bound_words, bound_tag, cleared_words, WordsOf, Wrote};

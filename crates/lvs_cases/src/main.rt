@@ -19,6 +19,8 @@
 // is printed in decimal, with a blank before it. Bytes are printed as one blank and lowercase hexadecimal digits; no bytes as nothing. A name has
 // at most 4,096 bytes, words and a path as many, and every other field 65,536. A field that is too long or holds part of a word or number or
 // anything but one component, a cut case or another letter prints `broken` and ends.
+#![tactic(auto)]
+
 ghost use Rattle.std.specs.Prelude.{◌≤◌};
 
 mod comparing;

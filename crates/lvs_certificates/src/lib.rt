@@ -2,6 +2,8 @@
 //
 // A layer below the public calls: any bytes may be the list. `requires` of the search asks for what the calls have tested before: that the
 // list is fit, that the packet's name is good, and for places that `node_places` has filled.
+#![tactic(auto)]
+
 ghost use Rattle.std.specs.Prelude.{◌≡◌, ltb, length};
 ghost use Rattle.tlv.specs.Lists.{first_index};
 ghost use Rattle.lvs_spec.specs.Limits.{max_certificates};

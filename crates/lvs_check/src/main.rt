@@ -2,6 +2,8 @@
 //
 // A request on standard input is the mark 4D 4B, then a 2-byte length (high byte first) and the packet name, then such a length and the
 // key name. Each gets one line. Nothing is read ahead, so that an answer is written as soon as its request is complete.
+#![tactic(auto)]
+
 ghost use Rattle.std.specs.Prelude.{◌≤◌};
 ghost use Rattle.io.specs.Counts.{IsPrefixLen};
 

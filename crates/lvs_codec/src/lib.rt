@@ -1,4 +1,6 @@
 // Models written from their descriptions, and taken apart into them (docs/format.md, 12): two public calls. Any lists and any bytes have an answer.
+#![tactic(auto)]
+
 ghost use Rattle.std.specs.Prelude.{◌≡◌, ◌≤◌, length};
 ghost use Rattle.lvs_description.specs.Answers.{write_outcome, describe_outcome};
 ghost use Rattle.lvs_codec.specs.Answers.{write_answer_of, describe_answer_of, Sized, Answered, AnsweredShort};

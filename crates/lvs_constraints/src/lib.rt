@@ -4,6 +4,8 @@
 // for a component that is cut out.
 //
 // `packet` and `key` are the two names, `slots` the bindings as they stand, and `c` the component that is to pass, with a header of `header` bytes.
+#![tactic(auto)]
+
 ghost use Rattle.std.specs.Prelude.{◌≡◌, eqb};
 ghost use Rattle.tlv.specs.Lists.{any, all, is};
 ghost use Rattle.lvs_names.specs.Contents.{Alone};

@@ -1,5 +1,7 @@
 // Takes a model's bytes apart into its description (lvs_description): a list of numbers and one of the texts' bytes. Any bytes have an answer: the
 // definitions are total.
+#![tactic(auto)]
+
 mod lists;
 mod parts;
 mod rows;

@@ -5,6 +5,8 @@
 //
 // A layer below the public calls: `requires` asks for such a component, such slots and, in `nodes`, for places; the search and the follower have
 // made them. Edges may be any bytes.
+#![tactic(auto)]
+
 pub mod nodes;
 pub mod sides;
 

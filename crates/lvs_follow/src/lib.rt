@@ -1,5 +1,7 @@
 // Checks the path of an allowed pair (docs/format.md, 8.5), for a device that is not to search: one edge is crossed for each component, and no
 // other is looked at but to count. Any bytes have an answer.
+#![tactic(auto)]
+
 ghost use Rattle.std.specs.Prelude.{◌≡◌, ◌+◌, length};
 ghost use Rattle.tlv.specs.Lists.{is_some};
 ghost use Rattle.lvs_spec.specs.Model.{model_of};

@@ -1,4 +1,6 @@
 // The functions that a constraint may call, by their names. Any bytes have an answer.
+#![tactic(auto)]
+
 ghost use Rattle.std.specs.Prelude.{◌≡◌};
 ghost use Rattle.lvs_spec.specs.Verdict.{function_of};
 ghost use Rattle.lvs_functions.specs.Functions.{function_read};

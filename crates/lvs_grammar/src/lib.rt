@@ -1,4 +1,6 @@
 // Refusals 1 to 3 (docs/format.md, 5): whether a model is too long, of another version, malformed, or readable.
+#![tactic(auto)]
+
 mod faults;
 mod leaves;
 mod order;

@@ -1,6 +1,8 @@
 // Names and their components (docs/format.md, 6), read at their places and never copied.
 //
 // A layer below the public calls: any bytes may be a name. `requires` asks for a component that is cut out.
+#![tactic(auto)]
+
 ghost use Rattle.std.specs.Prelude.{◌≡◌, eqb, length, take};
 ghost use Rattle.tlv.specs.Bytes.{same_bytes};
 ghost use Rattle.lvs_spec.specs.Model.{component_of};

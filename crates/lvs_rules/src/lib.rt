@@ -1,6 +1,8 @@
 // Rules 4 to 14 of the verdict: the table `rules` of lvs_spec. The top level is read four times: the Nodes are counted, their Parents read into
 // an array, each Node and all that it holds is tested, keeping the lowest rule broken and the first Node that breaks it, and the TagSymbols.
 // Any bytes have an answer: the definitions are total.
+#![tactic(auto)]
+
 mod destinations;
 mod numbers;
 mod options;

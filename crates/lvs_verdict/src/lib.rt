@@ -1,4 +1,6 @@
 // What is refused before anything is walked: the verdict on a model, and on a model with two names. Any bytes have an answer.
+#![tactic(auto)]
+
 ghost use Rattle.std.specs.Prelude.{◌≡◌};
 ghost use Rattle.lvs_spec.specs.Verdict.{verdict};
 ghost use Rattle.lvs_verdict.specs.Answers.{verdict_of, InputsOf};

@@ -6,6 +6,8 @@
 // `places` has the words of each Node, `named` is NamedPatternCnt, `packet` and `key` are the two names, `slots` the bindings as they stand. The
 // words of a path are written on the way back from a hit, each where its depth says, so that without a hit none is; one that `path` has no
 // room for is left out.
+#![tactic(auto)]
+
 ghost use Rattle.std.specs.Prelude.{◌≡◌, [], ◌+◌, ◌*◌, ◌≤◌, ◌<◌, length, set};
 ghost use Rattle.lvs_spec.specs.Limits.{max_name_bytes};
 ghost use Rattle.lvs_spec.specs.Model.{model_of};

@@ -1,6 +1,8 @@
 // The bytes of a description: how many there are, and the bytes themselves in a lent buffer. One pass over the two lists does both, as
 // C's snprintf does: it counts always, and writes where there is room. Each nested element is written into its place behind its header, a
 // part of the buffer that is lent to its writer.
+#![tactic(auto)]
+
 mod leaves;
 mod lists;
 mod parts;

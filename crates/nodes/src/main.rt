@@ -2,6 +2,8 @@
 //
 // Standard input is the model. A line is `node` and a Node's numbers of ValueEdges, PatternEdges and SignConstraints. The last
 // line is `nodes` and their number. `malformed` stands for a number where the bytes are not elements and nothing else.
+#![tactic(auto)]
+
 ghost use Rattle.std.specs.Prelude.{◌≡◌};
 ghost use Rattle.lvs_spec.specs.Types.{Node};
 ghost use Rattle.tlv_reader.specs.Count.{count_of};

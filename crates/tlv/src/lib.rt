@@ -1,4 +1,6 @@
 // NDN's elements: a type, a length and that many bytes, read at a place of a slice and never copied.
+#![tactic(auto)]
+
 ghost use Rattle.std.specs.Prelude.{◌≡◌, true, ◌+◌, ◌≤◌, ◌<◌, length};
 ghost use Rattle.tlv.specs.Bytes.{same_bytes};
 ghost use Rattle.tlv.specs.Number.{width, least, integer_size};

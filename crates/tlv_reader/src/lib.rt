@@ -3,6 +3,8 @@
 // The borrow checker covers no function over a struct that holds a reference: the three methods, and the two functions
 // that make a reader, are proved by hand. Each leaves the work to a covered function on the slice and the place, and a
 // caller of the two needs no such proof.
+#![tactic(auto)]
+
 ghost use Rattle.std.specs.Prelude.{◌≡◌};
 ghost use Rattle.tlv.specs.Answers.{read_at};
 ghost use Rattle.tlv_reader.specs.Methods.{place_after, moved, inside_at};

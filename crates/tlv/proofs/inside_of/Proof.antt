@@ -11,37 +11,37 @@ use Rattle.tlv.proofs.Fields.{inside_here, inside_none}
 use Rattle.tlv.proofs.inside_of.Statement.{statement}
 use Rattle.tlv.proofs.inside_of.Tie as tie
 
-abbrev invariant-loop : tie.invariant-loop
+abbrev invariant-loop : tie.invariant-loop-t
 invariant-loop s typ place₀ place = Gathered listed (insides typ) s place.at []
 
-abbrev decreases-loop : tie.decreases-loop
+abbrev decreases-loop : tie.decreases-loop-t
 decreases-loop s typ place₀ place = length s - place.at
 
 -- at an element that was found
-module _ (c : tie.After-t invariant-loop decreases-loop) where
-  step : SeenOf _ _ c.before.before.element.ensures c.t.given.1
-  step = seen _ _ c.before.before.element.ensures c.t.given.1
+module _ (c : tie.In-Found invariant-loop decreases-loop) where
+  step : SeenOf _ _ c.element.ensures c.in-Found.is
+  step = seen _ _ c.element.ensures c.in-Found.is
 
-loop-holds : tie.Need-loop-init invariant-loop decreases-loop
+loop-holds : tie.Need-loop-t-init invariant-loop decreases-loop
 loop-holds c = started
 
-returns : tie.Need-returns invariant-loop decreases-loop
-returns c = inside_here c.before.before.before.before.before.loop.invariant (step c.before.before) c.if1.true
+returns : tie.Need-returns-then-t-typ invariant-loop decreases-loop
+returns c = inside_here c.loop-t.invariant (step c.before) c.if-t-typ.true
 
-loop-less : tie.Need-loop-smaller invariant-loop decreases-loop
-loop-less c = let st = step c.before.before in omega arith
+loop-less : tie.Need-loop-t-smaller invariant-loop decreases-loop
+loop-less c = let st = step c.before in omega arith
 
-loop-again : tie.Need-loop-preserved invariant-loop decreases-loop
-loop-again c = passed c.before.before.before.before.before.loop.invariant (insides_other _ (step c.before.before) c.if1.false)
+loop-again : tie.Need-loop-t-preserved invariant-loop decreases-loop
+loop-again c = passed c.loop-t.invariant (insides_other _ (step c.before) c.if-t-typ.false)
 
-returns-2 : tie.Need-returns-2 invariant-loop decreases-loop
-returns-2 c = inside_none c.before.before.before.loop.invariant (stop_end _ _ c.before.before.element.ensures c.enum_told.given.1)
+returns-2 : tie.Need-returns-in-End invariant-loop decreases-loop
+returns-2 c = inside_none c.loop-t.invariant (stop_end _ _ c.element.ensures c.in-End.is)
 
-returns-3 : tie.Need-returns-3 invariant-loop decreases-loop
-returns-3 c = inside_none c.before.before.before.loop.invariant (stop_malformed _ _ c.before.before.element.ensures c.enum-told2.given.1)
+returns-3 : tie.Need-returns-in-Malformed invariant-loop decreases-loop
+returns-3 c = inside_none c.loop-t.invariant (stop_malformed _ _ c.element.ensures c.in-Malformed.is)
 
-pub inside-of-spec : {M : Type 1} → statement M
-inside-of-spec =
+pub inside_of_spec : {M : Type 1} → statement M
+inside_of_spec =
     tie.close
     (tie.spec
     invariant-loop

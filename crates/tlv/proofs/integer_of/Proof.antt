@@ -8,16 +8,16 @@ use Rattle.tlv.specs.Answers.{integer_of}
 use Rattle.tlv.proofs.integer_of.Statement.{statement}
 use Rattle.tlv.proofs.integer_of.Tie as tie
 
-big-endian-requires : tie.Need-big-endian-requires
-big-endian-requires c κs = (sym c.before.integer_size_lem.ensures ∙ c.if1.true, omega arith)
+big-endian-requires : tie.Need-big_endian-requires
+big-endian-requires c κs = (sym c.integer_size.ensures ∙ c.if-integer_size.true, omega arith)
 
-returns : tie.Need-returns
+returns : tie.Need-returns-then-integer_size
 unfolding integer_of integer
-returns c = rw (sym c.before.before.integer_size_lem.ensures ∙ c.before.if1.true, c.big_endian.ensures.is, take-length)
+returns c = rw (sym c.integer_size.ensures ∙ c.if-integer_size.true, c.big_endian.ensures.is, take-length)
 
-returns-2 : tie.Need-returns-2
+returns-2 : tie.Need-returns-else-integer_size
 unfolding integer_of integer
-returns-2 c = rw (sym c.before.integer_size_lem.ensures ∙ c.if1.false)
+returns-2 c = rw (sym c.integer_size.ensures ∙ c.if-integer_size.false)
 
-pub integer-of-spec : {M : Type 1} → statement M
-integer-of-spec = tie.close (tie.spec (λ c κs. search rules) big-endian-requires returns returns-2)
+pub integer_of_spec : {M : Type 1} → statement M
+integer_of_spec = tie.close (tie.spec (λ c κs. search rules) big-endian-requires returns returns-2)

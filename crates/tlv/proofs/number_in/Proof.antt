@@ -5,10 +5,10 @@ use Rattle.tlv.proofs.number_in.Statement.{statement}
 use Rattle.tlv.proofs.number_in.Tie as tie
 
 returns : tie.Need-returns
-returns c = number_inside _ _ _ c.before.before.inside_of.ensures c.number_of_lem.ensures
+returns c = number_inside _ _ _ c.inside_of-part.ensures c.number_of.ensures
 
-pub number-in-spec : {M : Type 1} → statement M
-number-in-spec =
+pub number_in_spec : {M : Type 1} → statement M
+number_in_spec =
     tie.close
     (tie.spec
     (λ c κs. search rules)

@@ -6,8 +6,8 @@ use Rattle.tlv.proofs.u16_at.Statement.{statement}
 use Rattle.tlv.proofs.u16_at.Tie as tie
 
 returns : tie.Need-returns
-returns c = joined _ _ 1 1 c.before.u8-at.ensures c.u8-at2.ensures (omega arith)
+returns c = joined _ _ 1 1 c.u8_at-high.ensures c.u8_at-low.ensures (omega arith)
 
-pub u16-at-spec : {M : Type 1} → statement M
-u16-at-spec =
+pub u16_at_spec : {M : Type 1} → statement M
+u16_at_spec =
     tie.close (tie.spec (λ c κs. search rules) (λ c. search rules) (λ c κs. search rules) (λ c. search rules) (λ c. search rules) returns)

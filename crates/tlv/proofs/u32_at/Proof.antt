@@ -6,8 +6,8 @@ use Rattle.tlv.proofs.u32_at.Statement.{statement}
 use Rattle.tlv.proofs.u32_at.Tie as tie
 
 returns : tie.Need-returns
-returns c = joined _ _ 2 2 c.before.u16-at.ensures c.u16-at2.ensures (omega arith)
+returns c = joined _ _ 2 2 c.u16_at-high.ensures c.u16_at-low.ensures (omega arith)
 
-pub u32-at-spec : {M : Type 1} → statement M
-u32-at-spec =
+pub u32_at_spec : {M : Type 1} → statement M
+u32_at_spec =
     tie.close (tie.spec (λ c κs. search rules) (λ c. search rules) (λ c κs. search rules) (λ c. search rules) (λ c. search rules) returns)

@@ -5,11 +5,11 @@ use Rattle.tlv.proofs.Bytes.{one_byte}
 use Rattle.tlv.proofs.u8_at.Statement.{statement}
 use Rattle.tlv.proofs.u8_at.Tie as tie
 
-cast-result : tie.Need-overflow-cast-result
-cast-result c = omega (arith, c.shared-slice-known.given c.before.args.at)
+cast-result : tie.Need-overflow_cast-result
+cast-result c = omega (arith, c.shared_slice_known-1.given c.args.at)
 
 returns : tie.Need-returns
-returns c = one_byte _ _ (λ i. (c.shared-slice-known.given i).fits) (omega arith)
+returns c = one_byte _ _ (λ i. (c.shared_slice_known-1.given i).fits) (omega arith)
 
-pub u8-at-spec : {M : Type 1} → statement M
-u8-at-spec = tie.close (tie.spec (λ c. search rules) cast-result returns)
+pub u8_at_spec : {M : Type 1} → statement M
+u8_at_spec = tie.close (tie.spec (λ c. search rules) cast-result returns)

@@ -7,54 +7,54 @@ use Rattle.tlv.proofs.Elements.{at_end, no_type, malformed_type, no_length, too_
 use Rattle.tlv.proofs.Place.wide_element.Statement.{statement}
 use Rattle.tlv.proofs.Place.wide_element.Tie as tie
 
-returns : tie.Need-returns
-returns c = sym (at_end _ _ c.if1.true)
+returns : tie.Need-returns-then-s-at
+returns c = sym (at_end _ _ c.if-s-at.true)
 
-returns-2 : tie.Need-returns-2
-returns-2 c = sym (no_type _ _ (omega arith) (numbered _ _ c.before.before.number.ensures c.enum_told.given.1))
+returns-2 : tie.Need-returns-in_default
+returns-2 c = sym (no_type _ _ (omega arith) (numbered _ _ c.number.ensures c.in_default.is))
 
-returns-3 : tie.Need-returns-3
+returns-3 : tie.Need-returns-then-t-lt1
 returns-3 c =
-    let k = c.before.before in
-    sym (malformed_type _ _ (omega arith) (numbered _ _ k.before.before.number.ensures k.t.given.1) (type_low c.if2.true))
+    let k = c.before in
+    sym (malformed_type _ _ (omega arith) (numbered _ _ k.number.ensures k.in-Value.is) (type_low c.if-t-lt1.true))
 
-returns-4 : tie.Need-returns-4
+returns-4 : tie.Need-returns-then-t-gt4294967295
 returns-4 c =
-    let k = c.before.before.before in
-    sym (malformed_type _ _ (omega arith) (numbered _ _ k.before.before.number.ensures k.t.given.1)
-    (type_high c.before.if2.false c.if3.true))
+    let k = c.before.before in
+    sym (malformed_type _ _ (omega arith) (numbered _ _ k.number.ensures k.in-Value.is)
+    (type_high c.if-t-lt1.false c.if-t-gt4294967295.true))
 
-returns-5 : tie.Need-returns-5
+returns-5 : tie.Need-returns-in_default-number
 returns-5 c =
-    let m = c.before.before in
-    let k = m.before.before.before.before in
-    sym (no_length _ _ (omega arith) (numbered _ _ k.before.before.number.ensures k.t.given.1)
-    (type_ok m.before.before.if2.false m.before.if3.false) (numbered _ _ m.number2.ensures c.enum-told2.given.1))
+    let m = c.before in
+    let k = m.before.before.before in
+    sym (no_length _ _ (omega arith) (numbered _ _ k.number.ensures k.in-Value.is)
+    (type_ok m.if-t-lt1.false m.if-t-gt4294967295.false) (numbered _ _ m.number-2.ensures c.in_default-number.is))
 
-sub-left : tie.Need-overflow-sub-left
-sub-left c = (numbered _ _ c.before.before.before.number2.ensures c.before.len.given.1).within
+sub-left : tie.Need-overflow_sub-left
+sub-left c = (numbered _ _ c.number-2.ensures c.in-Value-number.is).within
 
-returns-6 : tie.Need-returns-6
+returns-6 : tie.Need-returns-then-left-len
 returns-6 c =
-    let l = c.before.before in
-    let m = l.before.before in
-    let k = m.before.before.before.before in
-    sym (too_long_lem _ _ (omega arith) (numbered _ _ k.before.before.number.ensures k.t.given.1)
-    (type_ok m.before.before.if2.false m.before.if3.false) (numbered _ _ m.number2.ensures l.len.given.1) c.if4.true)
+    let l = c.before in
+    let m = l.before in
+    let k = m.before.before.before in
+    sym (too_long_lem _ _ (omega arith) (numbered _ _ k.number.ensures k.in-Value.is)
+    (type_ok m.if-t-lt1.false m.if-t-gt4294967295.false) (numbered _ _ m.number-2.ensures l.in-Value-number.is) c.if-left-len.true)
 
-cast-typ : tie.Need-overflow-cast-typ
+cast-typ : tie.Need-overflow_cast-typ
 cast-typ c = omega arith
 
-returns-7 : tie.Need-returns-7
+returns-7 : tie.Need-returns
 returns-7 c =
-    let l = c.before.before in
-    let m = l.before.before in
-    let k = m.before.before.before.before in
-    sym (found _ _ (omega arith) (numbered _ _ k.before.before.number.ensures k.t.given.1)
-    (type_ok m.before.before.if2.false m.before.if3.false) (numbered _ _ m.number2.ensures l.len.given.1) c.if4.false)
+    let l = c.before in
+    let m = l.before in
+    let k = m.before.before.before in
+    sym (found _ _ (omega arith) (numbered _ _ k.number.ensures k.in-Value.is)
+    (type_ok m.if-t-lt1.false m.if-t-gt4294967295.false) (numbered _ _ m.number-2.ensures l.in-Value-number.is) c.if-left-len.false)
 
-pub wide-element-spec : {M : Type 1} → statement M
-wide-element-spec =
+pub wide_element_spec : {M : Type 1} → statement M
+wide_element_spec =
     tie.close
     (tie.spec
     returns
