@@ -23,7 +23,7 @@ const SHORT_PATH: u32 = 34;
 
 // The first match of a name: its node and how many Tags are bound. Here and below a refusal has a number of docs/format.md, 5, and where: a node
 // index, with 2 the place of the first byte at fault, with 32 the index of an entry, else 0.
-#[derive(Drop)]
+#[derive(Clone, Copy)]
 pub enum MatchAnswer {
     Match { node: u64, bound: u32 },
     NoMatch,
@@ -31,7 +31,7 @@ pub enum MatchAnswer {
 }
 
 // The first pair of a packet match and a key match that may sign it: their nodes.
-#[derive(Drop)]
+#[derive(Clone, Copy)]
 pub enum SignAnswer {
     Allowed { packet: u64, key: u64 },
     NotAllowed,
@@ -39,7 +39,7 @@ pub enum SignAnswer {
 }
 
 // The first certificate of a list that may sign a packet: its index from 0.
-#[derive(Drop)]
+#[derive(Clone, Copy)]
 pub enum SuggestAnswer {
     Certificate { index: u32 },
     NoCertificate,

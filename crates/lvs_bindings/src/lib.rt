@@ -12,7 +12,7 @@ ghost use Rattle.lvs_bindings.specs.Slots.{Room, SlotOf, text_from, bound_words,
 pub const SLOT_WORDS: usize = lvs_spec::MAX_TAG as usize * 2;
 
 // The two words of a Tag: where its component starts in the packet's name followed by the key's, and its size, which is 0 for an unbound Tag.
-#[derive(Drop)]
+#[derive(Clone, Copy)]
 pub struct Slot {
     pub start: u32,
     pub size: u32,
@@ -24,7 +24,7 @@ pub const PACKET_ORIGIN: u32 = 1;
 pub const KEY_ORIGIN: u32 = 2;
 
 // The three words of a Tag for a caller: where its component starts in the name of origin, its size, and the origin; all 0 for an unbound Tag.
-#[derive(Drop)]
+#[derive(Clone, Copy)]
 pub struct TagWords {
     pub start: u32,
     pub size: u32,

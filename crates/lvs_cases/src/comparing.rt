@@ -8,7 +8,7 @@ use crate::{Buffer, input, output, turn};
 use lvs_names::ComponentRead;
 
 // How many bytes were looked at; or one of the fields is not a component.
-#[derive(Drop)]
+#[derive(Clone, Copy)]
 enum Comparison {
     Equal(usize),
     Different(usize),

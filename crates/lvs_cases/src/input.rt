@@ -6,21 +6,21 @@ use crate::Buffer;
 use libc::STDIN_FILENO;
 
 // The bytes of the buffer from at to end are read and not taken yet.
-#[derive(Drop)]
+#[derive(Clone, Copy)]
 pub struct Input {
     pub at: usize,
     pub end: usize,
 }
 
 // How many bytes were taken: fewer than asked where the input ends.
-#[derive(Drop)]
+#[derive(Clone, Copy)]
 pub struct Taken {
     pub count: usize,
     pub input: Input,
 }
 
 // The bytes of a case's field at the start of what was lent for it, and whether these are all of it.
-#[derive(Drop)]
+#[derive(Clone, Copy)]
 pub struct Field {
     pub is_whole: bool,
     pub count: usize,

@@ -8,7 +8,7 @@ use crate::{Buffer, NAME_BYTES, input, output, turn, words};
 use lvs::SignAnswer;
 use lvs_follow::FollowAnswer;
 
-#[derive(Drop)]
+#[derive(Clone, Copy)]
 pub enum Call {
     Sign,
     Follow,

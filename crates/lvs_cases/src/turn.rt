@@ -4,7 +4,7 @@ ghost use Rattle.std.specs.Prelude.{◌≡◌};
 use crate::input::Input;
 
 // Where input and output stand after a case, and whether it was a whole one.
-#[derive(Drop)]
+#[derive(Clone, Copy)]
 pub struct Turn {
     pub is_whole: bool,
     pub input: Input,

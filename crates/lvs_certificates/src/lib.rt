@@ -22,14 +22,14 @@ use lvs_walk::Found;
 use tlv::{Place, Read};
 
 // The index of an entry, from 0.
-#[derive(Drop)]
+#[derive(Clone, Copy)]
 pub enum Index {
     At(usize),
     Nowhere,
 }
 
 // What a list is before it is searched.
-#[derive(Drop)]
+#[derive(Clone, Copy)]
 pub enum ListRead {
     Fit,
     TooMany,

@@ -23,7 +23,7 @@ const MARK_FIRST: u8 = 0x4D;
 const MARK_SECOND: u8 = 0x4B;
 
 // What was read where a request may begin.
-#[derive(Drop)]
+#[derive(Clone, Copy)]
 enum Mark {
     Right,
     Wrong,
@@ -31,7 +31,7 @@ enum Mark {
 }
 
 // The number of bytes of a name that were read, and whether these are all of it.
-#[derive(Drop)]
+#[derive(Clone, Copy)]
 struct NameBytes {
     is_whole: bool,
     count: usize,

@@ -18,14 +18,14 @@ const SHORT_OUTPUT: u32 = 31;
 const SMALL: usize = 4096;
 
 // Written with this many bytes; or refused, as the verdict would refuse those bytes, or with 30 or 31 and 0.
-#[derive(Drop)]
+#[derive(Clone, Copy)]
 pub enum WriteAnswer {
     Written(usize),
     Refused { number: u32, at: u32 },
 }
 
 // Described with so many numbers and bytes of texts; or refused, as the verdict refuses the model, or with 30 and 0.
-#[derive(Drop)]
+#[derive(Clone, Copy)]
 pub enum DescribeAnswer {
     Described { numbers: usize, texts: usize },
     Refused { number: u32, at: u32 },

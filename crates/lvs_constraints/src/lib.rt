@@ -23,7 +23,7 @@ use lvs_spec::types::{
 use tlv::{Place, Read};
 
 // What an argument holds: a Value, as a part, or a Tag.
-#[derive(Drop)]
+#[derive(Clone, Copy)]
 pub enum ArgumentRead {
     Value(usize, usize),
     Tag(u64),

@@ -17,7 +17,7 @@ use lvs_spec::types::{NAMED_PATTERN_CNT, NODE_ID};
 use rows::put_row;
 
 // How many numbers and how many bytes of texts may still be put. Where something did not fit, `ok` is false, and nothing more is put.
-#[derive(Drop)]
+#[derive(Clone, Copy)]
 struct Room {
     ok: bool,
     numbers: usize,
@@ -25,7 +25,7 @@ struct Room {
 }
 
 // The elements of which a container may hold any number. Of Parents only the number is asked for: the first one counts.
-#[derive(Drop)]
+#[derive(Clone, Copy)]
 enum Sort {
     Node,
     Symbol,
@@ -41,7 +41,7 @@ enum Sort {
 }
 
 // How many elements of each sort a Node holds.
-#[derive(Drop)]
+#[derive(Clone, Copy)]
 struct Counts {
     parents: usize,
     names: usize,
@@ -51,7 +51,7 @@ struct Counts {
 }
 
 // A component in a Value, with the place of its text.
-#[derive(Drop)]
+#[derive(Clone, Copy)]
 struct Component {
     typ: u32,
     start: usize,
@@ -59,7 +59,7 @@ struct Component {
 }
 
 // What an argument holds, a Value or a Tag, and the place of its inside.
-#[derive(Drop)]
+#[derive(Clone, Copy)]
 struct Held {
     value: bool,
     start: usize,
@@ -67,7 +67,7 @@ struct Held {
 }
 
 // Described, with how many numbers and bytes of texts; or a lent list has too few.
-#[derive(Drop)]
+#[derive(Clone, Copy)]
 pub enum Described {
     Of { numbers: usize, texts: usize },
     TooShort,

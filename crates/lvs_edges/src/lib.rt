@@ -23,14 +23,14 @@ use lvs_spec::types::{NODE_ID, PATTERN_EDGE, TAG, VALUE, VALUE_EDGE};
 use tlv::{Place, Read};
 
 // Whether it is a PatternEdge; start and end of the edge's inside in its Node; the place after it.
-#[derive(Drop)]
+#[derive(Clone, Copy)]
 pub enum EdgeRead {
     Edge(bool, usize, usize, usize),
     End,
 }
 
 // What a PatternEdge leads to and binds, and where in it the Constraints are from.
-#[derive(Drop)]
+#[derive(Clone, Copy)]
 pub struct PatternFields {
     pub dest: u64,
     pub tag: u64,
@@ -38,7 +38,7 @@ pub struct PatternFields {
 }
 
 // An edge is shut, or leads to a Node; then the Tag that it has bound, 0 for none.
-#[derive(Drop)]
+#[derive(Clone, Copy)]
 pub enum Crossing {
     Shut,
     Open(u64, u64),

@@ -23,7 +23,7 @@ use lvs_spec::types::{NAMED_PATTERN_CNT, NODE_ID};
 use lvs_verdict::Inputs;
 
 // Whether a path shows that the key name may sign the packet name.
-#[derive(Drop)]
+#[derive(Clone, Copy)]
 pub enum FollowAnswer {
     Accepted,
     No,
@@ -31,7 +31,7 @@ pub enum FollowAnswer {
 }
 
 // The node that a path leads to, or that it leads nowhere.
-#[derive(Drop)]
+#[derive(Clone, Copy)]
 enum End {
     At(u64),
     Nowhere,

@@ -6,7 +6,7 @@ ghost use Rattle.lvs_spec.specs.Verdict.{function_of};
 ghost use Rattle.lvs_functions.specs.Functions.{function_read};
 
 // The four known functions, or another name.
-#[derive(Drop)]
+#[derive(Clone, Copy)]
 pub enum Function {
     Eq,
     EqType,

@@ -11,7 +11,7 @@ use super::types::{Kind, Known, Meaning, meaning_of};
 use tlv::{Place, Read};
 
 // The first fault, if there is one.
-#[derive(Drop)]
+#[derive(Clone, Copy)]
 pub enum Fault {
     Nowhere,
     At(u32),

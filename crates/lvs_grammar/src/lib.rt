@@ -21,7 +21,7 @@ const THIS_VERSION: [u8; 4] = [0x00, 0x01, 0x10, 0x00];
 const DEPTH: u8 = 7;
 
 // What the bytes of a model come to before rule 4. If they are malformed, the place of the first fault.
-#[derive(Drop)]
+#[derive(Clone, Copy)]
 pub enum Reading {
     TooLong,
     OtherVersion,

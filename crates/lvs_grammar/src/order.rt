@@ -9,7 +9,7 @@ use super::types::Kind;
 use lvs_spec::types;
 
 // Whether an element may stand in a state, and the state after it.
-#[derive(Drop)]
+#[derive(Clone, Copy)]
 pub enum Next {
     Refused,
     State(u8),

@@ -6,7 +6,7 @@ ghost use Rattle.lvs_grammar.specs.Types.{meaning_of, is_optional};
 use lvs_spec::types;
 
 // The nine containers: what holds elements.
-#[derive(Drop)]
+#[derive(Clone, Copy)]
 pub enum Kind {
     Model,
     Node,
@@ -20,7 +20,7 @@ pub enum Kind {
 }
 
 // What holds plain bytes. A text is a RuleName in a Node and an Identifier in a TagSymbol.
-#[derive(Drop)]
+#[derive(Clone, Copy)]
 pub enum Leaf {
     Version,
     Integer,
@@ -29,13 +29,13 @@ pub enum Leaf {
     FunctionId,
 }
 
-#[derive(Drop)]
+#[derive(Clone, Copy)]
 pub enum Known {
     Plain(Leaf),
     Container(Kind),
 }
 
-#[derive(Drop)]
+#[derive(Clone, Copy)]
 pub enum Meaning {
     Optional,
     Critical,

@@ -15,41 +15,41 @@ use tlv::{Place, Read};
 const NAME: u32 = 7;
 
 // Which of the two names that a walk takes.
-#[derive(Drop)]
+#[derive(Clone, Copy)]
 pub enum Side {
     Packet,
     Key,
 }
 
 // The components of a name: where the first starts, and how many there are.
-#[derive(Drop)]
+#[derive(Clone, Copy)]
 pub struct Row {
     pub start: usize,
     pub count: usize,
 }
 
-#[derive(Drop)]
+#[derive(Clone, Copy)]
 pub enum NameRead {
     Good(Row),
     // A refusal number.
     Refused(u32),
 }
 
-#[derive(Drop)]
+#[derive(Clone, Copy)]
 pub enum Counted {
     Components(usize),
     Malformed,
 }
 
 // The component at a place of a name: the size of its header, and the place where it ends; or there is none.
-#[derive(Drop)]
+#[derive(Clone, Copy)]
 pub enum ComponentRead {
     Component(usize, usize),
     End,
 }
 
 // A component: its type, and its value as a part of the slice that it was read from.
-#[derive(Drop)]
+#[derive(Clone, Copy)]
 pub struct Content {
     pub typ: u32,
     pub start: usize,
@@ -57,7 +57,7 @@ pub struct Content {
 }
 
 // What comparing two components has found, and how many bytes of their values it looked at.
-#[derive(Drop)]
+#[derive(Clone, Copy)]
 pub struct Compared {
     pub equal: bool,
     pub looked: usize,

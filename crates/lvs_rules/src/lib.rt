@@ -28,21 +28,21 @@ use options::{argument_rule, arguments_rule, count_of, terms_rule};
 use parents::{parents_of, root_rule};
 use tlv::{Place, Read};
 
-#[derive(Drop)]
+#[derive(Clone, Copy)]
 pub enum Judged {
     Accepted { nodes: u32 },
     Refused { rule: u32, node: u32 },
 }
 
 // A rule that is broken, and the index of the first Node that breaks it.
-#[derive(Drop)]
+#[derive(Clone, Copy)]
 struct Fault {
     rule: u32,
     node: u32,
 }
 
 // The elements of which a container may hold any number.
-#[derive(Drop)]
+#[derive(Clone, Copy)]
 enum Sort {
     Argument,
     Call,

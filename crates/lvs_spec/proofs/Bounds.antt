@@ -88,7 +88,7 @@ module _ (m : Model) where
       (e.0, e.1, q, numbered_at (edges (node_at m v)) a, h, k)
 
   not_empty : (d v : ℕ) → ¬ Memᴰ [] (paths d v)
-  not_empty zero v j = Memᴰ.not_nil j
+  not_empty zero v j = Memᴰ.not-nil j
   not_empty (suc d) v j = let (i, e, q, a, h, k) = path_from d v j in nil≢cons h
 
   -- no two are the same
@@ -114,7 +114,7 @@ module _ (m : Model) where
 
   paths_lead : (d v : ℕ) {p : List ℕ} → Memᴰ p (paths d v) → Led v p
   unfolding arrive destinations
-  paths_lead zero v j = absurd (Memᴰ.not_nil j)
+  paths_lead zero v j = absurd (Memᴰ.not-nil j)
   paths_lead (suc d) v {p} j =
       let (i, e, q, at, h, k) = path_from d v j in
       let (u, a, b) = go i e q at k (λ k. paths_lead d (destination e) k) in
@@ -130,8 +130,8 @@ module _ (m : Model) where
   unfolding trace
   trace_looks [] x = omega arith
   trace_looks (c ∷ cs) x =
-      looks_each _ (λ (i, e). branch i (paths (length cs) (destination e))) (λ (i, e). step i e (cross m c x i e) refl (trace_looks cs))
-      (numbered 0 (edges (node_at m x.node)))
+      looks_each (λ (i, e). looked ∷ onward (trace m cs) (cross m c x i e)) (λ (i, e). branch i (paths (length cs) (destination e)))
+      (λ (i, e). step i e (cross m c x i e) refl (trace_looks cs)) (numbered 0 (edges (node_at m x.node)))
     where
       step : (i : ℕ) (e : Edge) (o : Option Match) → cross m c x i e ≡ o
           → ((y : Match) → looks (trace m cs y) ≤ length (paths (length cs) y.node))

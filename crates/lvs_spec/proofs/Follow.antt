@@ -51,7 +51,7 @@ module _ (m : Model) where
   -- each an ordinal of an edge
   way_low : (n : ℕ) → ((v : ℕ) → length (edges (node_at m v)) ≤ n) → {cs : List Binding} {p : List ℕ} {x y : Match} → Way m cs p x y
       → {w : ℕ} → Memᴰ w p → w < n
-  way_low n few arrived i = absurd (Memᴰ.not_nil i)
+  way_low n few arrived i = absurd (Memᴰ.not-nil i)
   way_low n few {x = x} (crossing {i = j} {p = p} e there k way) {w} i = go (Memᴰ.cases_cons i) (way_low n few way)
     where
       go : (w ≡ j) ⊎ Memᴰ w p → (Memᴰ w p → w < n) → w < n

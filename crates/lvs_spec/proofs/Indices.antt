@@ -73,7 +73,7 @@ module _ {A : Type 0} (f : A → Bool) where
   -- ---- there is none
 
   pub index_none : (i : ℕ) (xs : List A) → first_index f i xs ≡ none → (x : A) → Memᴰ x xs → f x ≡ false
-  index_none i [] h x m = absurd (Memᴰ.not_nil m)
+  index_none i [] h x m = absurd (Memᴰ.not-nil m)
   index_none i (y ∷ ys) h x m = go (f y) refl (Memᴰ.cases_cons m) (λ h' m'. index_none (i + 1) ys h' x m')
     where
       go : (t : Bool) → f y ≡ t → (x ≡ y) ⊎ Memᴰ x ys → (first_index f (i + 1) ys ≡ none → Memᴰ x ys → f x ≡ false) → f x ≡ false

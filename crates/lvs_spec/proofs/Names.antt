@@ -85,7 +85,7 @@ module _ (base : ℕ) (b : List ℕ) where
 row_stands : (es : List Element) (front : List ℕ) {at : ℕ} {cs : List Component} {c : Component} → length front ≡ at
     → components_at at (nexts es done) ≡ some cs → Memᴰ c cs → StandsIn (front ++ encode es) c
 unfolding components_at encode
-row_stands [] front {cs = cs} {c = c} l h i = absurd (Memᴰ.not_nil (subst (Memᴰ c) (sym (some-injective _ cs h)) i))
+row_stands [] front {cs = cs} {c = c} l h i = absurd (Memᴰ.not-nil (subst (Memᴰ c) (sym (some-injective _ cs h)) i))
 row_stands (e ∷ es) front {at} {cs} {c} l h i =
     let (ds, a, k) = bind_from (components_at (at + length (element_bytes e)) (nexts es done)) _ h in
     let (t, same) = guard_from (is_component e) _ k in

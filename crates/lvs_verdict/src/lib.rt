@@ -11,14 +11,14 @@ use lvs_rules::Judged;
 
 // What a model is: accepted with its number of Nodes; or refused with a number of docs/format.md, 5, and where: a node index, with 2 the place of
 // the first byte at fault, else 0.
-#[derive(Drop)]
+#[derive(Clone, Copy)]
 pub enum Verdict {
     Accepted { nodes: u32 },
     Refused { number: u32, at: u32 },
 }
 
 // What a model and two names are: the components of each name, or refused.
-#[derive(Drop)]
+#[derive(Clone, Copy)]
 pub enum Inputs {
     Good { packet: Row, key: Row },
     Refused { number: u32, at: u32 },

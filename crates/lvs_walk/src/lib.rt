@@ -27,14 +27,14 @@ use lvs_spec::types::{NAMED_PATTERN_CNT, NODE_ID};
 
 // What is looked for: any match; a packet match with a key match after it, which starts at a node and at a place of the key's name; a key
 // match for the packet's node.
-#[derive(Drop)]
+#[derive(Clone, Copy)]
 pub enum Goal {
     Match,
     Packet { start: u64, from: usize },
     Key(u64),
 }
 
-#[derive(Drop)]
+#[derive(Clone, Copy)]
 pub enum Found {
     Nothing,
     // The packet's node, and the node where the walk ended: the key's, or the packet's again where no key is asked for.

@@ -18,7 +18,7 @@ use parts::write_many;
 use tlv_writer::put_bytes;
 
 // Where the next number and the next text are, and how many bytes there are so far. `ok` falls where no description can stand any more.
-#[derive(Drop)]
+#[derive(Clone, Copy)]
 struct Cursor {
     ok: bool,
     number: usize,
@@ -27,7 +27,7 @@ struct Cursor {
 }
 
 // What holds elements, inside a model, and is gone through to learn how many bytes they take.
-#[derive(Drop)]
+#[derive(Clone, Copy)]
 enum Container {
     Node,
     Symbol,
@@ -39,7 +39,7 @@ enum Container {
 }
 
 // What there may be any number of.
-#[derive(Drop)]
+#[derive(Clone, Copy)]
 enum Part {
     RuleName,
     Signer,
@@ -49,7 +49,7 @@ enum Part {
 }
 
 // How many bytes a description has, counted up to one more than a model may have.
-#[derive(Drop)]
+#[derive(Clone, Copy)]
 pub enum Size {
     Nothing,
     Bytes(usize),

@@ -5,14 +5,14 @@ ghost use Rattle.lvs_write.specs.Steps.{TookNumber, TookText};
 use crate::Cursor;
 
 // A number, and the place behind it.
-#[derive(Drop)]
+#[derive(Clone, Copy)]
 pub(crate) struct Number {
     pub(crate) value: u64,
     pub(crate) next: Cursor,
 }
 
 // A text, which is a part of the texts, and the place behind it.
-#[derive(Drop)]
+#[derive(Clone, Copy)]
 pub(crate) struct Text {
     pub(crate) start: usize,
     pub(crate) end: usize,

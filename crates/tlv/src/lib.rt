@@ -9,13 +9,13 @@ ghost use Rattle.tlv.specs.Answers.{number_at, read_at, integer_of};
 ghost use Rattle.tlv.specs.Spelled.{Spelled};
 
 // A position in a slice. It moves forward only by whole elements.
-#[derive(Drop)]
+#[derive(Clone, Copy)]
 pub struct Place {
     pub at: usize,
 }
 
 // What stands at a place.
-#[derive(Drop)]
+#[derive(Clone, Copy)]
 pub enum Read {
     // An element: its inside is the part from start to end, and next is the place after it.
     Found {
@@ -31,19 +31,19 @@ pub enum Read {
 }
 
 // A part of a slice.
-#[derive(Drop)]
+#[derive(Clone, Copy)]
 pub struct Part {
     pub start: usize,
     pub end: usize,
 }
 
-#[derive(Drop)]
+#[derive(Clone, Copy)]
 pub enum IntegerRead {
     Integer(u64),
     OtherSize,
 }
 
-#[derive(Drop)]
+#[derive(Clone, Copy)]
 enum NumberRead {
     Value { value: u64, next: usize },
     Unreadable,

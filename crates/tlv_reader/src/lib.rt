@@ -20,7 +20,7 @@ pub struct Reader<'a> {
 }
 
 // How many elements of a type there are, where the bytes are elements and nothing else.
-#[derive(Drop)]
+#[derive(Clone, Copy)]
 pub enum Count {
     Elements(usize),
     Malformed,

@@ -7,29 +7,29 @@ use Rattle.tlv_reader.proofs.inside_at.Statement.{statement}
 use Rattle.tlv_reader.proofs.inside_at.Tie as tie
 
 -- the element that was found
-step : (c : tie.After-start) → SeenOf _ _ c.before.before.element-at.ensures c.start.given.1
-step c = seen _ _ c.before.before.element-at.ensures c.start.given.1
+step : (c : tie.In-Found) → SeenOf _ _ c.element_at.ensures c.in-Found.is
+step c = seen _ _ c.element_at.ensures c.in-Found.is
 
-sub-result : tie.Need-overflow-sub-result
-sub-result c = let st = step c.before in omega arith
+sub-result : tie.Need-slice_bounds-result-count
+sub-result c = let st = step c in omega arith
 
-part-result-start : tie.Need-slice-bounds-result-start
-part-result-start c = let st = step c.before in omega arith
+part-result-start : tie.Need-slice_bounds-result-start
+part-result-start c = let st = step c in omega arith
 
-part-result-end : tie.Need-slice-bounds-result-end
-part-result-end c = let st = step c.before in omega arith
+part-result-end : tie.Need-slice_bounds-result-end
+part-result-end c = let st = step c in omega arith
 
-returns : tie.Need-returns
-returns c = inside_found _ _ c.before.before.before.before.element-at.ensures c.before.before.start.given.1
+returns : tie.Need-returns-in-Found
+returns c = inside_found _ _ c.element_at.ensures c.in-Found.is
 
-returns-2 : tie.Need-returns-2
-returns-2 c = inside_end _ _ c.before.before.before.element-at.ensures c.before.enum_told.given.1
+returns-2 : tie.Need-returns-in-End
+returns-2 c = inside_end _ _ c.element_at.ensures c.in-End.is
 
-returns-3 : tie.Need-returns-3
-returns-3 c = inside_malformed _ _ c.before.before.before.element-at.ensures c.before.enum-told2.given.1
+returns-3 : tie.Need-returns-in-Malformed
+returns-3 c = inside_malformed _ _ c.element_at.ensures c.in-Malformed.is
 
-pub inside-at-spec : {M : Type 1} → statement M
-inside-at-spec =
+pub inside_at_spec : {M : Type 1} → statement M
+inside_at_spec =
     tie.close
     (tie.spec
     (λ c κs. search rules)

@@ -5,17 +5,17 @@ use Rattle.tlv_writer.proofs.Numbers.{number_size_1, number_size}
 use Rattle.tlv_writer.proofs.number_size.Statement.{statement}
 use Rattle.tlv_writer.proofs.number_size.Tie as tie
 
-returns : tie.Need-returns
+returns : tie.Need-returns-then-n-lt253
 returns c = number_size_1 _ (search rules)
 
-add-result : tie.Need-overflow-add-result
-add-result c = omega (arith, (number_size _ c.before.before.if1.false c.before.mark_of.ensures c.width_of_lem.ensures).1)
+add-result : tie.Need-overflow_add-result
+add-result c = omega (arith, (number_size _ c.if-n-lt253.false c.mark_of.ensures c.width_of.ensures).1)
 
-returns-2 : tie.Need-returns-2
-returns-2 c = number_size _ c.before.before.if1.false c.before.mark_of.ensures c.width_of_lem.ensures
+returns-2 : tie.Need-returns
+returns-2 c = number_size _ c.if-n-lt253.false c.mark_of.ensures c.width_of.ensures
 
-pub number-size-spec : {M : Type 1} → statement M
-number-size-spec =
+pub number_size_spec : {M : Type 1} → statement M
+number_size_spec =
     tie.close
     (tie.spec
     returns

@@ -8,10 +8,10 @@ returns : tie.Need-returns
 returns c =
     let at-put-u82 = c.before.before in
     let at-put-u8 = at-put-u82.before.before.before.before in
-    halves_stored _ 1 1 _ (search rules) at-put-u8.put-u8.ensures at-put-u82.put-u82.ensures
+    halves_stored _ 1 1 _ (search rules) at-put-u8.put_u8.ensures at-put-u82.put_u8-2.ensures
 
-pub put-u16-spec : {M : Type 1} → statement M
-put-u16-spec =
+pub put_u16_spec : {M : Type 1} → statement M
+put_u16_spec =
     tie.close
     (tie.spec
     (λ c κs. search rules)

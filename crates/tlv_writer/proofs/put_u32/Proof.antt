@@ -8,10 +8,10 @@ returns : tie.Need-returns
 returns c =
     let at-put-u162 = c.before.before in
     let at-put-u16 = at-put-u162.before.before.before.before in
-    halves_stored _ 2 2 _ (search rules) at-put-u16.put-u16.ensures at-put-u162.put-u162.ensures
+    halves_stored _ 2 2 _ (search rules) at-put-u16.put_u16.ensures at-put-u162.put_u16-2.ensures
 
-pub put-u32-spec : {M : Type 1} → statement M
-put-u32-spec =
+pub put_u32_spec : {M : Type 1} → statement M
+put_u32_spec =
     tie.close
     (tie.spec
     (λ c κs. search rules)

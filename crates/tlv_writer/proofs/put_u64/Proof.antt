@@ -8,10 +8,10 @@ returns : tie.Need-returns
 returns c =
     let at-put-u322 = c.before.before in
     let at-put-u32 = at-put-u322.before.before.before.before in
-    halves_stored _ 4 4 _ (search rules) at-put-u32.put-u32.ensures at-put-u322.put-u322.ensures
+    halves_stored _ 4 4 _ (search rules) at-put-u32.put_u32.ensures at-put-u322.put_u32-2.ensures
 
-pub put-u64-spec : {M : Type 1} → statement M
-put-u64-spec =
+pub put_u64_spec : {M : Type 1} → statement M
+put_u64_spec =
     tie.close
     (tie.spec
     (λ c κs. search rules)

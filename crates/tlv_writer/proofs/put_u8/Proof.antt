@@ -7,8 +7,8 @@ use Rattle.tlv_writer.proofs.put_u8.Tie as tie
 returns : tie.Need-returns
 returns c = byte_stored _ _ _
 
-pub put-u8-spec : {M : Type 1} → statement M
-put-u8-spec = tie.close
+pub put_u8_spec : {M : Type 1} → statement M
+put_u8_spec = tie.close
     (tie.spec
     (λ c. search rules)
     (λ c. search rules)
