@@ -102,6 +102,7 @@ fn is_identifier(s: &[u8]) -> bool
     true
 }
 
+#[tactic(auto, unfolding(lvs_spec::specs::Leaves::letter))]
 fn is_letter(b: u8) -> bool
     ensures { result ≡ leaves.letter b }
 {

@@ -69,6 +69,7 @@ fn other_version(model: &[u8]) -> bool
     }
 }
 
+#[tactic(auto, unfolding(lvs_spec::specs::WellFormed::is_other_version))]
 fn is_other_version(typ: u32, inside: &[u8]) -> bool
     ensures { result ≡ is_other_version (record { type = typ; inside = inside.now }) }
 {

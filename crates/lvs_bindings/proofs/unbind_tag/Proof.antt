@@ -5,12 +5,12 @@ use borrow.Author.Rules.{rules}
 use Rattle.lvs_bindings.proofs.unbind_tag.Statement.{statement}
 use Rattle.lvs_bindings.proofs.unbind_tag.Tie as tie
 
-returns : tie.Need-returns
-returns c = clear_none _ _ c.if1.true
+returns : tie.Need-returns-then-tag-lt1
+returns c = clear_none _ _ c.if-tag-lt1.true
 
-returns-2 : tie.Need-returns-2
+returns-2 : tie.Need-returns
 returns-2 c = clear_some _ _ (omega arith)
 
-pub unbind-tag-spec : {M : Type 1} → statement M
-unbind-tag-spec =
+pub unbind_tag_spec : {M : Type 1} → statement M
+unbind_tag_spec =
     tie.close (tie.spec returns (λ c. search rules) (λ c. search rules) (λ c. search rules) (λ c. search rules) returns-2)

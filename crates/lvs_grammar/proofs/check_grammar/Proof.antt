@@ -9,38 +9,38 @@ use Rattle.lvs_grammar.specs.Faults.{fault_of}
 use Rattle.lvs_grammar.proofs.check_grammar.Statement.{statement}
 use Rattle.lvs_grammar.proofs.check_grammar.Tie as tie
 
-returns : tie.Need-returns
+returns : tie.Need-returns-then-model-gt-MAX_MODEL_BYTES
 unfolding reading_of too_long
-returns c = rw (lt-ltb _ _ c.if1.true)
+returns c = rw (lt-ltb _ _ c.if-model-gt-MAX_MODEL_BYTES.true)
 
-returns-2 : tie.Need-returns-2
+returns-2 : tie.Need-returns-then-other_version
 unfolding reading_of too_long
-returns-2 c = rw (le-ltb _ _ c.before.before.if1.false, sym c.before.other-version.ensures ∙ c.if2.true)
+returns-2 c = rw (le-ltb _ _ c.if-model-gt-MAX_MODEL_BYTES.false, sym c.other_version.ensures ∙ c.if-other_version.true)
 
-returns-3 : tie.Need-returns-3
+returns-3 : tie.Need-returns-in-Nowhere
 unfolding reading_of too_long fault_place
 returns-3 c =
-    let f = c.before.before in
+    let f = c.before in
     let v = f.before in
     rw (
-      le-ltb _ _ v.before.before.if1.false,
-      sym v.before.other-version.ensures ∙ v.if2.false,
-      sym f.fault-in.ensures ∙ ap fault_of c.enum_told.given.1,
+      le-ltb _ _ v.if-model-gt-MAX_MODEL_BYTES.false,
+      sym v.other_version.ensures ∙ v.if-other_version.false,
+      sym f.fault_in.ensures ∙ ap fault_of c.in-Nowhere.is,
     )
 
-returns-4 : tie.Need-returns-4
+returns-4 : tie.Need-returns-in-At
 unfolding reading_of too_long fault_place
 returns-4 c =
-    let f = c.before.before.before in
+    let f = c.before in
     let v = f.before in
     rw (
-      le-ltb _ _ v.before.before.if1.false,
-      sym v.before.other-version.ensures ∙ v.if2.false,
-      sym f.fault-in.ensures ∙ ap fault_of c.before.place.given.1,
+      le-ltb _ _ v.if-model-gt-MAX_MODEL_BYTES.false,
+      sym v.other_version.ensures ∙ v.if-other_version.false,
+      sym f.fault_in.ensures ∙ ap fault_of c.in-At.is,
     )
 
-pub check-grammar-spec : {M : Type 1} → statement M
-check-grammar-spec =
+pub check_grammar_spec : {M : Type 1} → statement M
+check_grammar_spec =
     tie.close
     (tie.spec
     returns

@@ -7,23 +7,23 @@ use Rattle.lvs_names.proofs.component_at.Statement.{statement}
 use Rattle.lvs_names.proofs.component_at.Tie as tie
 
 -- the element that was found
-step : (c : tie.After-start) → SeenOf _ _ c.before.before.element.ensures c.start.given.1
-step c = seen _ _ c.before.before.element.ensures c.start.given.1
+step : (c : tie.In-Found) → SeenOf _ _ c.element.ensures c.in-Found.is
+step c = seen _ _ c.element.ensures c.in-Found.is
 
-sub-t8 : tie.Need-overflow-sub-t8
-sub-t8 c = let f = step c.before in omega (arith, f.before)
+sub-t8 : tie.Need-overflow_sub-result
+sub-t8 c = let f = step c in omega (arith, f.before)
 
-returns : tie.Need-returns
-returns c = row_next (λ i. (c.before.before.before.before.shared-slice-known.given i).fits) (step c.before)
+returns : tie.Need-returns-in-Found
+returns c = row_next (λ i. (c.shared_slice_known-1.given i).fits) (step c)
 
-returns-2 : tie.Need-returns-2
-returns-2 c = row_done _ _ (seen _ _ c.before.before.element.ensures c.enum_told.given.1)
+returns-2 : tie.Need-returns-in-End
+returns-2 c = row_done _ _ (seen _ _ c.element.ensures c.in-End.is)
 
-returns-3 : tie.Need-returns-3
-returns-3 c = row_broken _ _ (seen _ _ c.before.before.element.ensures c.enum-told2.given.1)
+returns-3 : tie.Need-returns-in-Malformed
+returns-3 c = row_broken _ _ (seen _ _ c.element.ensures c.in-Malformed.is)
 
-pub component-at-spec : {M : Type 1} → statement M
-component-at-spec =
+pub component_at_spec : {M : Type 1} → statement M
+component_at_spec =
     tie.close
     (tie.spec
     (λ c κs. search rules)

@@ -10,40 +10,40 @@ use Rattle.lvs_names.proofs.Names.{marks, counts, count_none, count_broken, coun
 use Rattle.lvs_names.proofs.count.Statement.{statement}
 use Rattle.lvs_names.proofs.count.Tie as tie
 
-abbrev invariant-loop : tie.invariant-loop
+abbrev invariant-loop : tie.invariant-loop-typ
 invariant-loop name from place₀ n₀ place n =
     (n + (length name - place.at) ≤ length name) × GatheredFrom (folded counts (Components 0)) marks name from place.at (Components n)
 
-abbrev decreases-loop : tie.decreases-loop
+abbrev decreases-loop : tie.decreases-loop-typ
 decreases-loop name from place₀ n₀ place n = length name - place.at
 
 -- the element that was found
-step : (c : tie.After-typ invariant-loop decreases-loop) → SeenOf _ _ c.before.before.element.ensures c.typ.given.1
-step c = seen _ _ c.before.before.element.ensures c.typ.given.1
+step : (c : tie.In-Found invariant-loop decreases-loop) → SeenOf _ _ c.element.ensures c.in-Found.is
+step c = seen _ _ c.element.ensures c.in-Found.is
 
-loop-holds : tie.Need-loop-init invariant-loop decreases-loop
+loop-holds : tie.Need-loop-typ-init invariant-loop decreases-loop
 loop-holds c = (omega arith, started)
 
-returns : tie.Need-returns invariant-loop decreases-loop
-returns c = count_large c.before.before.before.before.before.loop.invariant.1 (step c.before.before) c.if1.true
+returns : tie.Need-returns-then-typ-gt-MAX_COMPONENT_TYPE invariant-loop decreases-loop
+returns c = count_large c.loop-typ.invariant.1 (step c.before) c.if-typ-gt-MAX_COMPONENT_TYPE.true
 
-add-n : tie.Need-overflow-add-n invariant-loop decreases-loop
-add-n c = let st = step c.before.before in omega (arith, c.before.before.before.before.before.loop.invariant.0)
+add-n : tie.Need-overflow_add-n invariant-loop decreases-loop
+add-n c = let st = step c.before in omega (arith, c.loop-typ.invariant.0)
 
-loop-less : tie.Need-loop-smaller invariant-loop decreases-loop
-loop-less c = let st = step c.before.before in omega arith
+loop-less : tie.Need-loop-typ-smaller invariant-loop decreases-loop
+loop-less c = let st = step c.before in omega arith
 
-loop-again : tie.Need-loop-preserved invariant-loop decreases-loop
+loop-again : tie.Need-loop-typ-preserved invariant-loop decreases-loop
 loop-again c =
-    let st = step c.before.before in
-    let inv = c.before.before.before.before.before.loop.invariant in
-    (omega (arith, inv.0), count_one inv.1 st c.if1.false)
+    let st = step c.before in
+    let inv = c.loop-typ.invariant in
+    (omega (arith, inv.0), count_one inv.1 st c.if-typ-gt-MAX_COMPONENT_TYPE.false)
 
-returns-2 : tie.Need-returns-2 invariant-loop decreases-loop
-returns-2 c = count_none c.before.before.before.loop.invariant.1 (seen _ _ c.before.before.element.ensures c.enum_told.given.1)
+returns-2 : tie.Need-returns-in-End invariant-loop decreases-loop
+returns-2 c = count_none c.loop-typ.invariant.1 (seen _ _ c.element.ensures c.in-End.is)
 
-returns-3 : tie.Need-returns-3 invariant-loop decreases-loop
-returns-3 c = count_broken c.before.before.before.loop.invariant.1 (seen _ _ c.before.before.element.ensures c.enum-told2.given.1)
+returns-3 : tie.Need-returns-in-Malformed invariant-loop decreases-loop
+returns-3 c = count_broken c.loop-typ.invariant.1 (seen _ _ c.element.ensures c.in-Malformed.is)
 
 pub count_spec : {M : Type 1} → statement M
 count_spec =

@@ -7,26 +7,26 @@ use Rattle.lvs_names.proofs.header.Statement.{statement}
 use Rattle.lvs_names.proofs.header.Tie as tie
 
 -- the element that was found
-step : (c : tie.After-typ) → SeenOf _ _ c.before.before.element.ensures c.typ.given.1
-step c = seen _ _ c.before.before.element.ensures c.typ.given.1
+step : (c : tie.In-Found) → SeenOf _ _ c.element.ensures c.in-Found.is
+step c = seen _ _ c.element.ensures c.in-Found.is
 
-returns : tie.Need-returns
-returns c = sym (header_type (step c.before.before) c.if1.true)
+returns : tie.Need-returns-then-typ-ne-NAME
+returns c = sym (header_type (step c.before) c.if-typ-ne-NAME.true)
 
-returns-2 : tie.Need-returns-2
-returns-2 c = sym (header_more (step c.before.before.before) c.before.if1.false c.if2.true)
+returns-2 : tie.Need-returns-then-end-name
+returns-2 c = sym (header_more (step c.before.before) c.if-typ-ne-NAME.false c.if-end-name.true)
 
-returns-3 : tie.Need-returns-3
-returns-3 c = sym (header_found (step c.before.before.before) c.before.if1.false c.if2.false)
+returns-3 : tie.Need-returns-else-end-name
+returns-3 c = sym (header_found (step c.before.before) c.if-typ-ne-NAME.false c.if-end-name.false)
 
-returns-4 : tie.Need-returns-4
-returns-4 c = sym (header_end _ (first_seen _ _ c.before.before.element.ensures c.enum_told.given.1))
+returns-4 : tie.Need-returns-in-End
+returns-4 c = sym (header_end _ (first_seen _ _ c.element.ensures c.in-End.is))
 
-returns-5 : tie.Need-returns-5
-returns-5 c = sym (header_malformed _ (first_seen _ _ c.before.before.element.ensures c.enum-told2.given.1))
+returns-5 : tie.Need-returns-in-Malformed
+returns-5 c = sym (header_malformed _ (first_seen _ _ c.element.ensures c.in-Malformed.is))
 
-pub header-spec : {M : Type 1} → statement M
-header-spec =
+pub header_spec : {M : Type 1} → statement M
+header_spec =
     tie.close
     (tie.spec
     (λ c κs. search rules)

@@ -5,48 +5,48 @@ use Rattle.lvs_names.proofs.Comparing.{alike_end, alike_more, none_differs}
 use Rattle.lvs_names.proofs.last_difference.Statement.{statement}
 use Rattle.lvs_names.proofs.last_difference.Tie as tie
 
-abbrev invariant-loop : tie.invariant-loop
+abbrev invariant-loop : tie.invariant-loop-left
 invariant-loop s c header left₀ left = AlikeFrom s c header left
 
-abbrev decreases-loop : tie.decreases-loop
+abbrev decreases-loop : tie.decreases-loop-left
 decreases-loop s c header left₀ left = left
 
 -- the loop's turn
-abbrev turn : tie.After-shared-slice-known invariant-loop decreases-loop → tie.At-loop invariant-loop decreases-loop
+abbrev turn : tie.After-shared_slice_known-1 invariant-loop decreases-loop → tie.At-loop-left invariant-loop decreases-loop
 turn c = c.before.before
 
-loop-holds : tie.Need-loop-init invariant-loop decreases-loop
+loop-holds : tie.Need-loop-left-init invariant-loop decreases-loop
 loop-holds c = alike_end c.requires
 
-sub-if1 : tie.Need-overflow-sub-if1 invariant-loop decreases-loop
+sub-if1 : tie.Need-overflow_sub-left invariant-loop decreases-loop
 sub-if1 c = omega arith
 
-shared-slice-read-if1 : tie.Need-shared-slice-read-if1 invariant-loop decreases-loop
-shared-slice-read-if1 c = let l = turn c in omega (arith, l.loop.inv.high, l.before.pre.long)
+shared-slice-read-if1 : tie.Need-bounds-s-left invariant-loop decreases-loop
+shared-slice-read-if1 c = let l = turn c in omega (arith, l.loop-left.invariant.high, l.requires.long)
 
-sub-if1-2 : tie.Need-overflow-sub-if1-2 invariant-loop decreases-loop
+sub-if1-2 : tie.Need-overflow_sub-left-in-loop-left invariant-loop decreases-loop
 sub-if1-2 c = omega arith
 
-shared-slice-read-if1-2 : tie.Need-shared-slice-read-if1-2 invariant-loop decreases-loop
-shared-slice-read-if1-2 c = omega (arith, (turn c.before).loop.inv.high)
+shared-slice-read-if1-2 : tie.Need-bounds-c-left invariant-loop decreases-loop
+shared-slice-read-if1-2 c = omega (arith, (turn c.before).loop-left.invariant.high)
 
-returns : tie.Need-returns invariant-loop decreases-loop
-returns c = record { behind = (turn c.before.before).loop.inv; unequal = λ more. c.if1.true }
+returns : tie.Need-returns-then-s-left invariant-loop decreases-loop
+returns c = record { behind = (turn c.before.before).loop-left.invariant; unequal = λ more. c.if-s-left.true }
 
-sub-left : tie.Need-overflow-sub-left invariant-loop decreases-loop
+sub-left : tie.Need-overflow_sub-left-in-loop-left-2 invariant-loop decreases-loop
 sub-left c = omega arith
 
-loop-less : tie.Need-loop-smaller invariant-loop decreases-loop
+loop-less : tie.Need-loop-left-smaller invariant-loop decreases-loop
 loop-less c = omega arith
 
-loop-again : tie.Need-loop-preserved invariant-loop decreases-loop
-loop-again c = let l = turn c.before.before in alike_more l.before.pre l.loop.inv (omega arith) c.if1.false
+loop-again : tie.Need-loop-left-preserved invariant-loop decreases-loop
+loop-again c = let l = turn c.before.before in alike_more l.requires l.loop-left.invariant (omega arith) c.if-s-left.false
 
-returns-2 : tie.Need-returns-2 invariant-loop decreases-loop
-returns-2 c = none_differs c.before.loop.invariant (omega arith)
+returns-2 : tie.Need-returns invariant-loop decreases-loop
+returns-2 c = none_differs c.loop-left.invariant (omega arith)
 
-pub last-difference-spec : {M : Type 1} → statement M
-last-difference-spec =
+pub last_difference_spec : {M : Type 1} → statement M
+last_difference_spec =
     tie.close
     (tie.spec
     invariant-loop

@@ -23,68 +23,68 @@ refused : {side : Side} (name : List ℕ) {first n : ℕ} → first ≡ first_re
 refused name e h = record { is = sym h ∙ ap (λ k. name_reading k name) e; counts = tt }
 
 -- its first refusal
-abbrev start : tie.After-first-refusal → tie.Start
+abbrev start : tie.After-first_refusal-first → tie.Start
 start c = c.before.before
 
-few : (c : tie.After-first-refusal) → c.first-refusal.result ≤ 24
-few c = omega (arith, c.first-refusal.ensures, low (start c).args.side)
+few : (c : tie.After-first_refusal-first) → c.first_refusal-first.result ≤ 24
+few c = omega (arith, c.first_refusal-first.ensures, low (start c).args.side)
 
 -- after the count of the components
 module _ (c : tie.After-count) where
-  abbrev begun : tie.After-first-refusal
+  abbrev begun : tie.After-first_refusal-first
   begun = c.before.before.before.before
 
   abbrev name : List ℕ
   name = (start begun).args.name.now
 
   short : length name ≤ max_name_bytes
-  short = c.before.before.before.if1.false
+  short = c.if-name-gt-MAX_NAME_BYTES.false
 
   headed : 0 < header_of name
-  headed = omega (arith, c.before.before.header.ensures, c.before.if2.false)
+  headed = omega (arith, c.header-start.ensures, c.if-start-eq0.false)
 
   counted : c.count.result ≡ count_of name (header_of name)
-  counted = rw (← c.before.before.header.ensures) c.count.ensures
+  counted = rw (← c.header-start.ensures) c.count.ensures
 
-returns : tie.Need-returns
-returns c = refused _ c.before.first-refusal.ensures (too_long_lem _ _ c.if1.true)
+returns : tie.Need-returns-then-name-gt-MAX_NAME_BYTES
+returns c = refused _ c.first_refusal-first.ensures (too_long_lem _ _ c.if-name-gt-MAX_NAME_BYTES.true)
 
-add-t8 : tie.Need-overflow-add-t8
+add-t8 : tie.Need-overflow_add-result
 add-t8 c = omega (arith, few c.before.before.before)
 
-returns-2 : tie.Need-returns-2
+returns-2 : tie.Need-returns-then-start-eq0
 returns-2 c =
     let f = c.before.before.before in
-    refused _ f.first-refusal.ensures (headless _ _ c.before.before.if1.false (sym c.before.header.ensures ∙ c.if2.true))
+    refused _ f.first_refusal-first.ensures (headless _ _ c.if-name-gt-MAX_NAME_BYTES.false (sym c.header-start.ensures ∙ c.if-start-eq0.true))
 
-add-t10 : tie.Need-overflow-add-t10
-add-t10 c = omega (arith, few (begun c.before.before))
+add-t10 : tie.Need-overflow_add-result-in_default
+add-t10 c = omega (arith, few (begun c.before))
 
-returns-3 : tie.Need-returns-3
+returns-3 : tie.Need-returns-in_default
 returns-3 c =
-    let d = c.before.before in
-    refused _ (begun d).first-refusal.ensures (malformed_name (name d) _ (short d) (headed d) (counted d) c.enum_told.given.1)
+    let d = c.before in
+    refused _ (begun d).first_refusal-first.ensures (malformed_name (name d) _ (short d) (headed d) (counted d) c.in_default.is)
 
-add-t11 : tie.Need-overflow-add-t11
-add-t11 c = omega (arith, few (begun c.before.before.before.before))
+add-t11 : tie.Need-overflow_add-result-then-n-gt-MAX_COMPONENTS
+add-t11 c = omega (arith, few (begun c.before.before))
 
-returns-4 : tie.Need-returns-4
+returns-4 : tie.Need-returns-then-n-gt-MAX_COMPONENTS
 returns-4 c =
-    let d = c.before.before.before.before in
-    refused _ (begun d).first-refusal.ensures
-    (many_components (name d) _ (short d) (headed d) (counted d) _ c.before.before.n.given.1 c.if3.true)
+    let d = c.before.before in
+    refused _ (begun d).first_refusal-first.ensures
+    (many_components (name d) _ (short d) (headed d) (counted d) _ c.in-Components.is c.if-n-gt-MAX_COMPONENTS.true)
 
-returns-5 : tie.Need-returns-5
+returns-5 : tie.Need-returns
 returns-5 c =
-    let d = c.before.before.before.before in
-    let is-n = c.before.before.n.given.1 in
-    rw d.before.before.header.ensures (record {
-      is = sym (good_name_lem (name d) _ (short d) (headed d) (counted d) _ is-n c.if3.false);
+    let d = c.before.before in
+    let is-n = c.in-Components.is in
+    rw d.header-start.ensures (record {
+      is = sym (good_name_lem (name d) _ (short d) (headed d) (counted d) _ is-n c.if-n-gt-MAX_COMPONENTS.false);
       counts = good_count (name d) (first_refusal (start (begun d)).args.side) (short d) (headed d) (counted d) _ is-n;
     })
 
-pub read-name-spec : {M : Type 1} → statement M
-read-name-spec =
+pub read_name_spec : {M : Type 1} → statement M
+read_name_spec =
     tie.close
     (tie.spec
     (λ c κs. search rules)

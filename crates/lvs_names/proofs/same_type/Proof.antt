@@ -6,7 +6,7 @@ use Rattle.lvs_names.proofs.same_type.Statement.{statement}
 use Rattle.lvs_names.proofs.same_type.Tie as tie
 
 returns : tie.Need-returns
-returns c = sym (type_is c.before.before.before.read-component.ensures c.before.before.read-component2.ensures)
+returns c = sym (type_is c.read_component-x.ensures c.read_component-y.ensures)
 
-pub same-type-spec : {M : Type 1} → statement M
-same-type-spec = tie.close (tie.spec (λ c κs. search rules) (λ c κs. search rules) returns)
+pub same_type_spec : {M : Type 1} → statement M
+same_type_spec = tie.close (tie.spec (λ c κs. search rules) (λ c κs. search rules) returns)

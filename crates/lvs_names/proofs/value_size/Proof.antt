@@ -6,7 +6,7 @@ use Rattle.lvs_names.proofs.value_size.Statement.{statement}
 use Rattle.lvs_names.proofs.value_size.Tie as tie
 
 returns : tie.Need-returns
-returns c = sym (size_is c.before.read-component.ensures)
+returns c = sym (size_is c.read_component-x.ensures)
 
-pub value-size-spec : {M : Type 1} → statement M
-value-size-spec = tie.close (tie.spec (λ c κs. search rules) (λ c. search rules) returns)
+pub value_size_spec : {M : Type 1} → statement M
+value_size_spec = tie.close (tie.spec (λ c κs. search rules) (λ c. search rules) returns)

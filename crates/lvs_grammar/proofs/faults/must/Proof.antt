@@ -3,14 +3,14 @@ use native.Mathlib.Omega.{arith}
 use Rattle.lvs_grammar.proofs.faults.must.Statement.{statement}
 use Rattle.lvs_grammar.proofs.faults.must.Tie as tie
 
-returns : tie.Need-returns
-returns c = rw c.if1.true
+returns : tie.Need-returns-then-ok
+returns c = rw c.if-ok.true
 
-cast-t4 : tie.Need-overflow-cast-t4
-cast-t4 c = omega (arith, c.before.requires)
+cast-t4 : tie.Need-overflow_cast-result
+cast-t4 c = omega (arith, c.requires)
 
-returns-2 : tie.Need-returns-2
-returns-2 c = rw c.if1.false
+returns-2 : tie.Need-returns
+returns-2 c = rw c.if-ok.false
 
-pub must-spec : {M : Type 1} → statement M
-must-spec = tie.close (tie.spec returns cast-t4 returns-2)
+pub must_spec : {M : Type 1} → statement M
+must_spec = tie.close (tie.spec returns cast-t4 returns-2)

@@ -11,50 +11,50 @@ use Rattle.lvs_grammar.proofs.PlainBytes.{identifier_empty, identifier_first, id
 use Rattle.lvs_grammar.proofs.leaves.is_identifier.Statement.{statement}
 use Rattle.lvs_grammar.proofs.leaves.is_identifier.Tie as tie
 
-abbrev invariant-loop : tie.invariant-loop
+abbrev invariant-loop : tie.invariant-loop-i
 invariant-loop s i₀ i = (i ≤ length s) × (identifier s ≡ all letter_or_digit (drop i s))
 
-abbrev decreases-loop : tie.decreases-loop
+abbrev decreases-loop : tie.decreases-loop-i
 decreases-loop s i₀ i = length s - i
 
-returns : tie.Need-returns invariant-loop decreases-loop
-returns c = sym (identifier_empty _ c.if1.true)
+returns : tie.Need-returns-then-s-eq0 invariant-loop decreases-loop
+returns c = sym (identifier_empty _ c.if-s-eq0.true)
 
-shared-slice-read-is-letter : tie.Need-shared-slice-read-is-letter invariant-loop decreases-loop
+shared-slice-read-is-letter : tie.Need-bounds-s-0 invariant-loop decreases-loop
 shared-slice-read-is-letter c = omega arith
 
-returns-2 : tie.Need-returns-2 invariant-loop decreases-loop
-returns-2 c = sym (identifier_first _ c.before.before.before.if1.false c.before.is-letter.ensures (not-true _ c.if2.true))
+returns-2 : tie.Need-returns-then-not-is_letter invariant-loop decreases-loop
+returns-2 c = sym (identifier_first _ c.if-s-eq0.false c.is_letter.ensures c.if-not-is_letter.true)
 
-loop-holds : tie.Need-loop-init invariant-loop decreases-loop
-loop-holds c = (omega arith, identifier_rest _ c.before.before.before.if1.false c.before.is-letter.ensures (not-false _ c.if2.false))
+loop-holds : tie.Need-loop-i-init invariant-loop decreases-loop
+loop-holds c = (omega arith, identifier_rest _ c.if-s-eq0.false c.is_letter.ensures c.if-not-is_letter.false)
 
-shared-slice-read-is-letter-or-digit : tie.Need-shared-slice-read-is-letter-or-digit invariant-loop decreases-loop
+shared-slice-read-is-letter-or-digit : tie.Need-bounds-s-i invariant-loop decreases-loop
 shared-slice-read-is-letter-or-digit c = omega arith
 
-returns-3 : tie.Need-returns-3 invariant-loop decreases-loop
+returns-3 : tie.Need-returns-then-not-is_letter_or_digit invariant-loop decreases-loop
 returns-3 c =
     let t = c.before.before.before in
     let l = t.before in
-    sym (l.loop.invariant.1 ∙ all_stops letter_or_digit _ _ t.loop-test.true c.before.is-letter-or-digit.ensures (not-true _ c.if3.true))
+    sym (l.loop-i.invariant.1 ∙ all_stops letter_or_digit _ _ t.loop-i-test.true c.is_letter_or_digit.ensures c.if-not-is_letter_or_digit.true)
 
-add-i : tie.Need-overflow-add-i invariant-loop decreases-loop
+add-i : tie.Need-overflow_add-i invariant-loop decreases-loop
 add-i c = omega arith
 
-loop-less : tie.Need-loop-smaller invariant-loop decreases-loop
+loop-less : tie.Need-loop-i-smaller invariant-loop decreases-loop
 loop-less c = omega arith
 
-loop-again : tie.Need-loop-preserved invariant-loop decreases-loop
+loop-again : tie.Need-loop-i-preserved invariant-loop decreases-loop
 loop-again c =
     let t = c.before.before.before in
     let l = t.before in
-    (omega arith, l.loop.invariant.1 ∙ all_goes_on letter_or_digit _ _ t.loop-test.true c.before.is-letter-or-digit.ensures (not-false _ c.if3.false))
+    (omega arith, l.loop-i.invariant.1 ∙ all_goes_on letter_or_digit _ _ t.loop-i-test.true c.is_letter_or_digit.ensures c.if-not-is_letter_or_digit.false)
 
-returns-4 : tie.Need-returns-4 invariant-loop decreases-loop
-returns-4 c = sym (c.before.loop.invariant.1 ∙ all_ends letter_or_digit _ _ c.loop-test.false)
+returns-4 : tie.Need-returns invariant-loop decreases-loop
+returns-4 c = sym (c.loop-i.invariant.1 ∙ all_ends letter_or_digit _ _ c.loop-i-test.false)
 
-pub is-identifier-spec : {M : Type 1} → statement M
-is-identifier-spec =
+pub is_identifier_spec : {M : Type 1} → statement M
+is_identifier_spec =
     tie.close
     (tie.spec
     invariant-loop

@@ -30,13 +30,13 @@ elsewhere UserFnCall b h = refl
 elsewhere UserFnArg b h = refl
 elsewhere TagSymbol b h = refl
 
-returns : tie.Need-returns
+returns : tie.Need-returns-in-Node
 unfolding text_in
-returns c = rw c.before.enum_told.given.1 c.marked.ensures
+returns c = rw c.in-Node.is c.marked.ensures
 
-returns-2 : tie.Need-returns-2
-returns-2 c = c.is-identifier.ensures ∙ elsewhere c.before.before.before.args.kind _ c.before.match.keys2
+returns-2 : tie.Need-returns-in_default
+returns-2 c = c.is_identifier.ensures ∙ elsewhere c.args.kind _ c.in_default.in_default-own.keys2
 
-pub is-text-spec : {M : Type 1} → statement M
-is-text-spec =
+pub is_text_spec : {M : Type 1} → statement M
+is_text_spec =
     tie.close (tie.spec (λ c. search rules) (λ c κs. search rules) (λ c κs. search rules) returns returns-2)

@@ -7,42 +7,42 @@ use Rattle.lvs_grammar.proofs.leaves.leaf_fault.Statement.{statement}
 use Rattle.lvs_grammar.proofs.leaves.leaf_fault.Tie as tie
 
 must-requires : tie.Need-must-requires
-must-requires c κs = let s = c.before.before.before in omega (arith, s.requires.0, s.requires.1)
+must-requires c κs = let s = c.before.before in omega (arith, s.requires.0, s.requires.1)
 
-must-requires-2 : tie.Need-must-requires-2
-must-requires-2 c κs = let s = c.before.before.before.before in omega (arith, s.requires.0, s.requires.1)
+must-requires-2 : tie.Need-must-requires-in-Integer
+must-requires-2 c κs = let s = c.before.before.before in omega (arith, s.requires.0, s.requires.1)
 
-value-fault-requires : tie.Need-value-fault-requires
-value-fault-requires c κs = c.before.before.before.requires.1
+value-fault-requires : tie.Need-value_fault-requires
+value-fault-requires c κs = c.requires.1
 
-must-requires-3 : tie.Need-must-requires-3
-must-requires-3 c κs = let s = c.before.before.before.before in omega (arith, s.requires.0, s.requires.1)
+must-requires-3 : tie.Need-must-requires-in-Text
+must-requires-3 c κs = let s = c.before.before.before in omega (arith, s.requires.0, s.requires.1)
 
-must-requires-4 : tie.Need-must-requires-4
-must-requires-4 c κs = let s = c.before.before.before.before in omega (arith, s.requires.0, s.requires.1)
+must-requires-4 : tie.Need-must-requires-in-FunctionId
+must-requires-4 c κs = let s = c.before.before.before in omega (arith, s.requires.0, s.requires.1)
 
-returns : tie.Need-returns
+returns : tie.Need-returns-in-Version
 unfolding leaf_fault leaf_in
-returns c = rw c.before.enum_told.given.1 c.must.ensures
+returns c = rw c.in-Version.is c.must.ensures
 
-returns-2 : tie.Need-returns-2
+returns-2 : tie.Need-returns-in-Integer
 unfolding leaf_fault leaf_in
-returns-2 c = rw (c.before.before.enum-told2.given.1, ← c.before.is-integer.ensures) c.must2.ensures
+returns-2 c = rw (c.in-Integer.is, ← c.is_integer.ensures) c.must-in-Integer.ensures
 
-returns-3 : tie.Need-returns-3
+returns-3 : tie.Need-returns-in-Value
 unfolding leaf_fault
-returns-3 c = rw c.before.enum-told3.given.1 c.value-fault.ensures
+returns-3 c = rw c.in-Value.is c.value_fault.ensures
 
-returns-4 : tie.Need-returns-4
+returns-4 : tie.Need-returns-in-Text
 unfolding leaf_fault leaf_in
-returns-4 c = rw (c.before.before.enum-told4.given.1, ← c.before.is-text.ensures) c.must3.ensures
+returns-4 c = rw (c.in-Text.is, ← c.is_text.ensures) c.must-in-Text.ensures
 
-returns-5 : tie.Need-returns-5
+returns-5 : tie.Need-returns-in-FunctionId
 unfolding leaf_fault leaf_in
-returns-5 c = rw (c.before.before.enum-told5.given.1, ← c.before.marked.ensures) c.must4.ensures
+returns-5 c = rw (c.in-FunctionId.is, ← c.marked.ensures) c.must-in-FunctionId.ensures
 
-pub leaf-fault-spec : {M : Type 1} → statement M
-leaf-fault-spec =
+pub leaf_fault_spec : {M : Type 1} → statement M
+leaf_fault_spec =
     tie.close
     (tie.spec
     (λ c. search rules)

@@ -5,17 +5,17 @@ use Rattle.lvs_grammar.proofs.PlainBytes.{marked_empty, marked_other, marked_res
 use Rattle.lvs_grammar.proofs.leaves.marked.Statement.{statement}
 use Rattle.lvs_grammar.proofs.leaves.marked.Tie as tie
 
-returns : tie.Need-returns
-returns c = sym (marked_empty c.before.before.args.mark _ c.if1.true)
+returns : tie.Need-returns-then-s-eq0
+returns c = sym (marked_empty c.args.mark _ c.if-s-eq0.true)
 
-returns-2 : tie.Need-returns-2
-returns-2 c = sym (marked_other _ _ c.before.before.if1.false c.if2.true)
+returns-2 : tie.Need-returns-then-s-mark
+returns-2 c = sym (marked_other _ _ c.if-s-eq0.false c.if-s-mark.true)
 
-returns-3 : tie.Need-returns-3
-returns-3 c = c.is-identifier.ensures ∙ sym (marked_rest _ _ c.before.before.before.before.if1.false c.before.before.if2.false)
+returns-3 : tie.Need-returns
+returns-3 c = c.is_identifier.ensures ∙ sym (marked_rest _ _ c.if-s-eq0.false c.if-s-mark.false)
 
-pub marked-spec : {M : Type 1} → statement M
-marked-spec =
+pub marked_spec : {M : Type 1} → statement M
+marked_spec =
     tie.close
     (tie.spec
     returns

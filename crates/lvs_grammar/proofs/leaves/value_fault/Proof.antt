@@ -12,42 +12,42 @@ use Rattle.lvs_grammar.proofs.leaves.value_fault.Tie as tie
 abbrev start : tie.After-element → tie.Start
 start c = c.before.before
 
-cast-t9 : tie.Need-overflow-cast-t9
-cast-t9 c = omega (arith, (start c.before.before.before.before).requires)
+cast-t9 : tie.Need-overflow_cast-result
+cast-t9 c = omega (arith, (start c.before.before).requires)
 
-returns : tie.Need-returns
-returns c = sym (valued _ _ c.before.before.before.before.element.ensures c.before.before.typ.given.1 ∙ rw (lt-leb _ _ c.if1.true))
+returns : tie.Need-returns-then-typ-gt-MAX_COMPONENT_TYPE
+returns c = sym (valued _ _ c.element.ensures c.in-Found.is ∙ rw (lt-leb _ _ c.if-typ-gt-MAX_COMPONENT_TYPE.true))
 
-add-must : tie.Need-overflow-add-must
+add-must : tie.Need-overflow_add-start
 add-must c =
-    let read = c.before.before.before.before in
-    omega (arith, seen _ _ read.element.ensures c.before.before.typ.given.1, (start read).requires)
+    let read = c.before.before in
+    omega (arith, seen _ _ read.element.ensures c.in-Found.is, (start read).requires)
 
 must-requires : tie.Need-must-requires
 must-requires c κs =
-    let read = c.before.before.before.before in
-    omega (arith, seen _ _ read.element.ensures c.before.before.typ.given.1, (start read).requires)
+    let read = c.before.before in
+    omega (arith, seen _ _ read.element.ensures c.in-Found.is, (start read).requires)
 
-cast-t12 : tie.Need-overflow-cast-t12
-cast-t12 c = omega (arith, (start c.before.before).requires)
+cast-t12 : tie.Need-overflow_cast-result-in-End
+cast-t12 c = omega (arith, (start c.before).requires)
 
-cast-t13 : tie.Need-overflow-cast-t13
-cast-t13 c = omega (arith, (start c.before.before).requires)
+cast-t13 : tie.Need-overflow_cast-result-in-Malformed
+cast-t13 c = omega (arith, (start c.before).requires)
 
-returns-2 : tie.Need-returns-2
+returns-2 : tie.Need-returns-else-typ-gt-MAX_COMPONENT_TYPE
 returns-2 c =
     let test = c.before in
     c.must.ensures ∙
-    sym (valued _ _ test.before.before.before.before.element.ensures test.before.before.typ.given.1 ∙ rw (le-leb _ _ test.if1.false))
+    sym (valued _ _ test.element.ensures test.in-Found.is ∙ rw (le-leb _ _ test.if-typ-gt-MAX_COMPONENT_TYPE.false))
 
-returns-3 : tie.Need-returns-3
-returns-3 c = sym (valued _ _ c.before.before.element.ensures c.enum_told.given.1)
+returns-3 : tie.Need-returns-in-End
+returns-3 c = sym (valued _ _ c.element.ensures c.in-End.is)
 
-returns-4 : tie.Need-returns-4
-returns-4 c = sym (valued _ _ c.before.before.element.ensures c.enum-told2.given.1)
+returns-4 : tie.Need-returns-in-Malformed
+returns-4 c = sym (valued _ _ c.element.ensures c.in-Malformed.is)
 
-pub value-fault-spec : {M : Type 1} → statement M
-value-fault-spec =
+pub value_fault_spec : {M : Type 1} → statement M
+value_fault_spec =
     tie.close
     (tie.spec
     (λ c κs. search rules)

@@ -7,13 +7,13 @@ use Rattle.lvs_grammar.proofs.States.{slot_step}
 use Rattle.lvs_grammar.proofs.order.in_constraint.Statement.{statement}
 use Rattle.lvs_grammar.proofs.order.in_constraint.Tie as tie
 
-returns : tie.Need-returns
+returns : tie.Need-returns-in-65
 unfolding order
-returns c = slot_step constraint c.before.match.keys1 c.slot.ensures refl
+returns c = slot_step constraint c.in-65.is c.slot.ensures refl
 
-returns-2 : tie.Need-returns-2
+returns-2 : tie.Need-returns-in_default
 unfolding order
-returns-2 c = refused constraint c.before.args.state c.before.args.typ c.match.rest
+returns-2 c = refused constraint c.args.state c.args.typ c.in_default.in_default-own.rest
 
-pub in-constraint-spec : {M : Type 1} → statement M
-in-constraint-spec = tie.close (tie.spec (λ c κs. search rules) returns returns-2)
+pub in_constraint_spec : {M : Type 1} → statement M
+in_constraint_spec = tie.close (tie.spec (λ c κs. search rules) returns returns-2)

@@ -7,21 +7,21 @@ use Rattle.lvs_grammar.proofs.States.{slot_step}
 use Rattle.lvs_grammar.proofs.order.in_pattern_edge.Statement.{statement}
 use Rattle.lvs_grammar.proofs.order.in_pattern_edge.Tie as tie
 
-returns : tie.Need-returns
+returns : tie.Need-returns-in-37
 unfolding order
-returns c = slot_step pattern_edge c.before.match.keys1 c.slot.ensures refl
+returns c = slot_step pattern_edge c.in-37.is c.slot.ensures refl
 
-returns-2 : tie.Need-returns-2
+returns-2 : tie.Need-returns-in-35
 unfolding order
-returns-2 c = slot_step pattern_edge c.before.match.keys2 c.slot2.ensures refl
+returns-2 c = slot_step pattern_edge c.in-35.is c.slot-in-35.ensures refl
 
-returns-3 : tie.Need-returns-3
+returns-3 : tie.Need-returns-in-67
 unfolding order
-returns-3 c = slot_step pattern_edge c.before.match.keys3 c.slot3.ensures refl
+returns-3 c = slot_step pattern_edge c.in-67.is c.slot-in-67.ensures refl
 
-returns-4 : tie.Need-returns-4
+returns-4 : tie.Need-returns-in_default
 unfolding order
-returns-4 c = refused pattern_edge c.before.args.state c.before.args.typ c.match.rest
+returns-4 c = refused pattern_edge c.args.state c.args.typ c.in_default.in_default-own.rest
 
-pub in-pattern-edge-spec : {M : Type 1} → statement M
-in-pattern-edge-spec = tie.close (tie.spec (λ c κs. search rules) (λ c κs. search rules) (λ c κs. search rules) returns returns-2 returns-3 returns-4)
+pub in_pattern_edge_spec : {M : Type 1} → statement M
+in_pattern_edge_spec = tie.close (tie.spec (λ c κs. search rules) (λ c κs. search rules) (λ c κs. search rules) returns returns-2 returns-3 returns-4)

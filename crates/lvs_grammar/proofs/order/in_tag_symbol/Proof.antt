@@ -7,17 +7,17 @@ use Rattle.lvs_grammar.proofs.States.{slot_step}
 use Rattle.lvs_grammar.proofs.order.in_tag_symbol.Statement.{statement}
 use Rattle.lvs_grammar.proofs.order.in_tag_symbol.Tie as tie
 
-returns : tie.Need-returns
+returns : tie.Need-returns-in-35
 unfolding order
-returns c = slot_step tagSymbol c.before.match.keys1 c.slot.ensures refl
+returns c = slot_step tagSymbol c.in-35.is c.slot.ensures refl
 
-returns-2 : tie.Need-returns-2
+returns-2 : tie.Need-returns-in-41
 unfolding order
-returns-2 c = slot_step tagSymbol c.before.match.keys2 c.slot2.ensures refl
+returns-2 c = slot_step tagSymbol c.in-41.is c.slot-in-41.ensures refl
 
-returns-3 : tie.Need-returns-3
+returns-3 : tie.Need-returns-in_default
 unfolding order
-returns-3 c = refused tagSymbol c.before.args.state c.before.args.typ c.match.rest
+returns-3 c = refused tagSymbol c.args.state c.args.typ c.in_default.in_default-own.rest
 
-pub in-tag-symbol-spec : {M : Type 1} → statement M
-in-tag-symbol-spec = tie.close (tie.spec (λ c κs. search rules) (λ c κs. search rules) returns returns-2 returns-3)
+pub in_tag_symbol_spec : {M : Type 1} → statement M
+in_tag_symbol_spec = tie.close (tie.spec (λ c κs. search rules) (λ c κs. search rules) returns returns-2 returns-3)

@@ -7,17 +7,17 @@ use Rattle.lvs_grammar.proofs.States.{slot_step}
 use Rattle.lvs_grammar.proofs.order.in_user_fn_call.Statement.{statement}
 use Rattle.lvs_grammar.proofs.order.in_user_fn_call.Tie as tie
 
-returns : tie.Need-returns
+returns : tie.Need-returns-in-39
 unfolding order
-returns c = slot_step userFnCall c.before.match.keys1 c.slot.ensures refl
+returns c = slot_step userFnCall c.in-39.is c.slot.ensures refl
 
-returns-2 : tie.Need-returns-2
+returns-2 : tie.Need-returns-in-51
 unfolding order
-returns-2 c = slot_step userFnCall c.before.match.keys2 c.slot2.ensures refl
+returns-2 c = slot_step userFnCall c.in-51.is c.slot-in-51.ensures refl
 
-returns-3 : tie.Need-returns-3
+returns-3 : tie.Need-returns-in_default
 unfolding order
-returns-3 c = refused userFnCall c.before.args.state c.before.args.typ c.match.rest
+returns-3 c = refused userFnCall c.args.state c.args.typ c.in_default.in_default-own.rest
 
-pub in-user-fn-call-spec : {M : Type 1} → statement M
-in-user-fn-call-spec = tie.close (tie.spec (λ c κs. search rules) (λ c κs. search rules) returns returns-2 returns-3)
+pub in_user_fn_call_spec : {M : Type 1} → statement M
+in_user_fn_call_spec = tie.close (tie.spec (λ c κs. search rules) (λ c κs. search rules) returns returns-2 returns-3)

@@ -4,17 +4,17 @@ use Rattle.lvs_grammar.specs.States.{slotted}
 use Rattle.lvs_grammar.proofs.order.slot.Statement.{statement}
 use Rattle.lvs_grammar.proofs.order.slot.Tie as tie
 
-returns : tie.Need-returns
+returns : tie.Need-returns-then-state-hi
 unfolding slotted
-returns c = record { is = rw (le-leb _ _ c.before.if1.true, le-leb _ _ c.if2.true) }
+returns c = record { is = rw (le-leb _ _ c.if-lo-state.true, le-leb _ _ c.if-state-hi.true) }
 
-returns-2 : tie.Need-returns-2
+returns-2 : tie.Need-returns-else-state-hi
 unfolding slotted
-returns-2 c = record { is = rw (le-leb _ _ c.before.if1.true, lt-leb _ _ c.if2.false) }
+returns-2 c = record { is = rw (le-leb _ _ c.if-lo-state.true, lt-leb _ _ c.if-state-hi.false) }
 
-returns-3 : tie.Need-returns-3
+returns-3 : tie.Need-returns-else-lo-state
 unfolding slotted
-returns-3 c = record { is = rw (lt-leb _ _ c.if1.false) }
+returns-3 c = record { is = rw (lt-leb _ _ c.if-lo-state.false) }
 
-pub slot-spec : {M : Type 1} → statement M
-slot-spec = tie.close (tie.spec returns returns-2 returns-3)
+pub slot_spec : {M : Type 1} → statement M
+slot_spec = tie.close (tie.spec returns returns-2 returns-3)

@@ -6,80 +6,80 @@ use Rattle.lvs_grammar.proofs.Apart.{unknown_type}
 use Rattle.lvs_grammar.proofs.types.meaning_of.Statement.{statement}
 use Rattle.lvs_grammar.proofs.types.meaning_of.Tie as tie
 
-returns : tie.Need-returns
+returns : tie.Need-returns-in-33
 unfolding meaning lookup known_types
-returns c = rw c.match.keys1
+returns c = rw c.in-33.is
 
-returns-2 : tie.Need-returns-2
+returns-2 : tie.Need-returns-in-35
 unfolding meaning lookup known_types
-returns-2 c = rw c.match.keys2
+returns-2 c = rw c.in-35.is
 
-returns-3 : tie.Need-returns-3
+returns-3 : tie.Need-returns-in-37
 unfolding meaning lookup known_types
-returns-3 c = rw c.match.keys3
+returns-3 c = rw c.in-37.is
 
-returns-4 : tie.Need-returns-4
+returns-4 : tie.Need-returns-in-39
 unfolding meaning lookup known_types
-returns-4 c = rw c.match.keys4
+returns-4 c = rw c.in-39.is
 
-returns-5 : tie.Need-returns-5
+returns-5 : tie.Need-returns-in-41
 unfolding meaning lookup known_types
-returns-5 c = rw c.match.keys5
+returns-5 c = rw c.in-41.is
 
-returns-6 : tie.Need-returns-6
+returns-6 : tie.Need-returns-in-49
 unfolding meaning lookup known_types
-returns-6 c = rw c.match.keys6
+returns-6 c = rw c.in-49.is
 
-returns-7 : tie.Need-returns-7
+returns-7 : tie.Need-returns-in-51
 unfolding meaning lookup known_types
-returns-7 c = rw c.match.keys7
+returns-7 c = rw c.in-51.is
 
-returns-8 : tie.Need-returns-8
+returns-8 : tie.Need-returns-in-65
 unfolding meaning lookup known_types
-returns-8 c = rw c.match.keys8
+returns-8 c = rw c.in-65.is
 
-returns-9 : tie.Need-returns-9
+returns-9 : tie.Need-returns-in-67
 unfolding meaning lookup known_types
-returns-9 c = rw c.match.keys9
+returns-9 c = rw c.in-67.is
 
-returns-10 : tie.Need-returns-10
+returns-10 : tie.Need-returns-in-81
 unfolding meaning lookup known_types
-returns-10 c = rw c.match.keys10
+returns-10 c = rw c.in-81.is
 
-returns-11 : tie.Need-returns-11
+returns-11 : tie.Need-returns-in-83
 unfolding meaning lookup known_types
-returns-11 c = rw c.match.keys11
+returns-11 c = rw c.in-83.is
 
-returns-12 : tie.Need-returns-12
+returns-12 : tie.Need-returns-in-85
 unfolding meaning lookup known_types
-returns-12 c = rw c.match.keys12
+returns-12 c = rw c.in-85.is
 
-returns-13 : tie.Need-returns-13
+returns-13 : tie.Need-returns-in-87
 unfolding meaning lookup known_types
-returns-13 c = rw c.match.keys13
+returns-13 c = rw c.in-87.is
 
-returns-14 : tie.Need-returns-14
+returns-14 : tie.Need-returns-in-97
 unfolding meaning lookup known_types
-returns-14 c = rw c.match.keys14
+returns-14 c = rw c.in-97.is
 
-returns-15 : tie.Need-returns-15
+returns-15 : tie.Need-returns-in-99
 unfolding meaning lookup known_types
-returns-15 c = rw c.match.keys15
+returns-15 c = rw c.in-99.is
 
-returns-16 : tie.Need-returns-16
+returns-16 : tie.Need-returns-in-103
 unfolding meaning lookup known_types
-returns-16 c = rw c.match.keys16
+returns-16 c = rw c.in-103.is
 
-returns-17 : tie.Need-returns-17
+returns-17 : tie.Need-returns-in-105
 unfolding meaning lookup known_types
-returns-17 c = rw c.match.keys17
+returns-17 c = rw c.in-105.is
 
-returns-18 : tie.Need-returns-18
+returns-18 : tie.Need-returns-in_default
 unfolding known_types
-returns-18 c = c.unknown_type.ensures ∙ unknown_type c.before.before.args.typ c.before.match.rest
+returns-18 c = c.unknown_type.ensures ∙ unknown_type c.args.typ c.in_default.in_default-own.rest
 
-pub meaning-of-spec : {M : Type 1} → statement M
-meaning-of-spec =
+pub meaning_of_spec : {M : Type 1} → statement M
+meaning_of_spec =
     tie.close
     (tie.spec
     (λ c κs. search rules)

@@ -4,17 +4,17 @@ use Rattle.lvs_spec.specs.Grammar.{unknown}
 use Rattle.lvs_grammar.proofs.types.unknown_type.Statement.{statement}
 use Rattle.lvs_grammar.proofs.types.unknown_type.Tie as tie
 
-returns : tie.Need-returns
+returns : tie.Need-returns-then-typ-lt32
 unfolding unknown
-returns c = rw (lt-leb 32 _ c.if1.true, unknown)
+returns c = rw (lt-leb 32 _ c.if-typ-lt32.true, unknown)
 
-returns-2 : tie.Need-returns-2
+returns-2 : tie.Need-returns-then-typ-eq0
 unfolding unknown
-returns-2 c = rw (le-leb 32 _ c.before.if1.false, eq-eqb _ _ c.if2.true, unknown)
+returns-2 c = rw (le-leb 32 _ c.if-typ-lt32.false, eq-eqb _ _ c.if-typ-eq0.true, unknown)
 
-returns-3 : tie.Need-returns-3
+returns-3 : tie.Need-returns
 unfolding unknown
-returns-3 c = rw (le-leb 32 _ c.before.if1.false, ne_eqb _ _ c.if2.false, unknown)
+returns-3 c = rw (le-leb 32 _ c.if-typ-lt32.false, ne_eqb _ _ c.if-typ-eq0.false, unknown)
 
-pub unknown-type-spec : {M : Type 1} → statement M
-unknown-type-spec = tie.close (tie.spec returns returns-2 returns-3)
+pub unknown_type_spec : {M : Type 1} → statement M
+unknown_type_spec = tie.close (tie.spec returns returns-2 returns-3)
