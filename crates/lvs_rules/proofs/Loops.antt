@@ -211,7 +211,7 @@ module _ (f : ℕ → List ℕ → ℕ) where
       → lowest_from f fault i (xs ++ (x ∷ [])) ≡ earlier (lowest_from f fault i xs) (record { rule = f j x; node = j })
   unfolding lowest_from
   from_more fault i [] x j e = let q : i ≡ j = omega arith in rw q
-  from_more fault i (y ∷ ys) x j e = from_more _ (suc i) ys x j (omega arith)
+  from_more fault i (y ∷ ys) x j e = from_more (earlier fault (record { rule = f i y; node = i })) (suc i) ys x j (omega arith)
 
   pub fault_more : (xs : List (List ℕ)) (x : List ℕ) → lowest f (xs ++ (x ∷ [])) ≡ earlier (lowest f xs) (record { rule = f (length xs) x; node = length xs })
   unfolding lowest

@@ -106,9 +106,10 @@ earlier_none a i h = rw (le-ltb no_rule a.rule h)
 one_pass : {k : ℕ} {rs : List Row} → Fits k rs → (a : Fault) → a.rule ≤ no_rule → (i : ℕ) (ns : List Node)
     → lowest_from (λ i n. first_row (λ a. fails_at a i n) rs) a i ns ≡ earlier a (first_there i ns rs)
 unfolding lowest_from
-one_pass fits a h i [] = sym (rw (no_nodes i fits) (earlier_none a i h))
-one_pass fits a h i (n ∷ ns) =
-    one_pass fits _ (earlier_most a _ h) (suc i) ns ∙ earlier_assoc a _ _ ∙ ap (earlier a) (node_more i n ns fits)
+one_pass {rs = rs} fits a h i [] = sym (rw (no_nodes i fits) (earlier_none a i h))
+one_pass {rs = rs} fits a h i (n ∷ ns) =
+    let first : Fault = record { rule = first_row (λ a. fails_at a i n) rs; node = i } in
+    one_pass fits (earlier a first) (earlier_most a first h) (suc i) ns ∙ earlier_assoc a _ _ ∙ ap (earlier a) (node_more i n ns fits)
 
 -- ---- a rule's fault, from what its test finds in the Nodes and outside of them
 
@@ -238,7 +239,9 @@ module _ {f g : ℕ → Node → ℕ} (all : List Node) (same : (i : ℕ) (n : N
   pass_same : (a : Fault) (i : ℕ) (ns : List Node) → drop i all ≡ ns → lowest_from f a i ns ≡ lowest_from g a i ns
   unfolding lowest_from
   pass_same a i [] h = refl
-  pass_same a i (n ∷ ns) h = let (there, later) = left_from all i h in rw (same i n there) (pass_same _ (suc i) ns later)
+  pass_same a i (n ∷ ns) h =
+      let (there, later) = left_from all i h in
+      rw (same i n there) (pass_same (earlier a (record { rule = g i n; node = i })) (suc i) ns later)
 
 -- the verdict by a table, from the lowest rule that each Node breaks and the lowest that is broken outside of the Nodes
 pub decided_by : (m : Model) {k : ℕ} {rs : List Row} → Fits k rs → (f : ℕ → Node → ℕ) (outside : ℕ)

@@ -139,7 +139,8 @@ fails_outside m a = a.whole || any (λ (s : Symbol). a.tag s.tag) m.symbols
 module _ {k : ℕ} {rs : List Row} (fits : Fits k rs) where
   pub row_outside : (m : Model)
       → first_row (fails_outside m) rs ≡ min (first_row (λ a. a.whole) rs) (least_of (λ (s : Symbol). first_row (λ a. a.tag s.tag) rs) m.symbols)
-  row_outside m = row_either (λ a. a.whole) _ fits ∙ ap (min _) (row_any (λ (s : Symbol) a. a.tag s.tag) fits m.symbols)
+  row_outside m =
+      row_either (λ a. a.whole) (λ a. any (λ (s : Symbol). a.tag s.tag) m.symbols) fits ∙ ap (min _) (row_any (λ (s : Symbol) a. a.tag s.tag) fits m.symbols)
 
   pub row_node : (i : ℕ) (n : Node)
       → first_row (λ a. fails_at a i n) rs ≡

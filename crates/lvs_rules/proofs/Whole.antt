@@ -11,7 +11,7 @@ use Rattle.lvs_spec.specs.Model.{node_of, symbol_of, model_of}
 use Rattle.lvs_spec.specs.Verdict.{Verdict, refused, judge}
 use Rattle.lvs_rules.specs.Lowest.{least_of, named_rule, node_rule, parent_index, symbol_rule}
 use Rattle.lvs_rules.specs.Sorts.{type_of, item_rule}
-use Rattle.lvs_rules.specs.Faults.{lowest_from, no_fault, lowest, verdict_of}
+use Rattle.lvs_rules.specs.Faults.{earlier, lowest_from, no_fault, lowest, verdict_of}
 use Rattle.lvs_rules.specs.declared.Fault.{Fault}
 use Rattle.lvs_rules.specs.declared.Sort.TheVariants as sort
 use Rattle.lvs_rules.proofs.Least.{least_map}
@@ -21,7 +21,7 @@ lowest_map : {A B : Type 0} (f : ℕ → B → ℕ) (h : A → B) (a : Fault) (i
     → lowest_from f a i (map h xs) ≡ lowest_from (λ i x. f i (h x)) a i xs
 unfolding lowest_from
 lowest_map f h a i [] = refl
-lowest_map f h a i (x ∷ xs) = lowest_map f h _ (suc i) xs
+lowest_map f h a i (x ∷ xs) = lowest_map f h (earlier a (record { rule = f i (h x); node = i })) (suc i) xs
 
 module _ (s : List ℕ) {n : ℕ} (count : n ≡ length (insides type.Node s)) where
   node_count : length (model_of s).nodes ≡ n

@@ -19,7 +19,7 @@ abbrev start : tie.At-loop-i Inv μ → tie.Start Inv μ
 start c = c.before.before.before
 
 abbrev turn : tie.After-one_if_bound-bound Inv μ → tie.In-loop-i Inv μ
-turn c = c.before.before.before
+turn c = c.before.before.before.before
 
 -- a Tag adds one or nothing to the count
 added : (c : tie.After-one_if_bound-bound Inv μ) → c.one_if_bound-bound.result ≤ 1

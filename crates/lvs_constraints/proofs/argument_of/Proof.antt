@@ -11,51 +11,51 @@ use Rattle.lvs_constraints.proofs.Holds.{argument_value, argument_tag, argument_
 use Rattle.lvs_constraints.proofs.argument_of.Statement.{statement}
 use Rattle.lvs_constraints.proofs.argument_of.Tie as tie
 
-abbrev invariant-loop : tie.invariant-loop
+abbrev invariant-loop : tie.invariant-loop-typ
 invariant-loop s place₀ place = Gathered listed (over argument_from) s place.at []
 
-abbrev decreases-loop : tie.decreases-loop
+abbrev decreases-loop : tie.decreases-loop-typ
 decreases-loop s place₀ place = length s - place.at
 
 -- the element that was found
-step : (c : tie.After-typ invariant-loop decreases-loop) → SeenOf _ _ c.before.before.element.ensures c.typ.given.1
-step c = seen _ _ c.before.before.element.ensures c.typ.given.1
+step : (c : tie.In-Found invariant-loop decreases-loop) → SeenOf _ _ c.element.ensures c.in-Found.is
+step c = seen _ _ c.element.ensures c.in-Found.is
 
-loop-holds : tie.Need-loop-init invariant-loop decreases-loop
+loop-holds : tie.Need-loop-typ-init invariant-loop decreases-loop
 loop-holds c = started
 
-returns : tie.Need-returns invariant-loop decreases-loop
-returns c = argument_value c.before.before.before.before.before.loop.invariant (step c.before.before) c.if1.true
+returns : tie.Need-returns-then-typ-eq-VALUE invariant-loop decreases-loop
+returns c = argument_value c.loop-typ.invariant (step c.before) c.if-typ-eq-VALUE.true
 
-sub-number-of : tie.Need-overflow-sub-number-of invariant-loop decreases-loop
-sub-number-of c = (step c.before.before.before).order
+sub-number-of : tie.Need-slice_bounds-number_of-count invariant-loop decreases-loop
+sub-number-of c = (step c.before.before).order
 
-part-number-of-start : tie.Need-slice-bounds-number-of-start invariant-loop decreases-loop
-part-number-of-start c = (step c.before.before.before).order
+part-number-of-start : tie.Need-slice_bounds-number_of-start invariant-loop decreases-loop
+part-number-of-start c = (step c.before.before).order
 
-part-number-of-end : tie.Need-slice-bounds-number-of-end invariant-loop decreases-loop
-part-number-of-end c = (step c.before.before.before).within
+part-number-of-end : tie.Need-slice_bounds-number_of-end invariant-loop decreases-loop
+part-number-of-end c = (step c.before.before).within
 
-returns-2 : tie.Need-returns-2 invariant-loop decreases-loop
+returns-2 : tie.Need-returns-then-typ-eq-TAG invariant-loop decreases-loop
 returns-2 c =
-    let d = c.before.before.before.before.before in
-    rw c.number_of_lem.ensures (argument_tag d.before.before.before.loop.invariant (step d) c.before.before.if2.true)
+    let d = c.before.before.before.before in
+    rw c.number_of.ensures (argument_tag d.loop-typ.invariant (step d) c.if-typ-eq-TAG.true)
 
-loop-less : tie.Need-loop-smaller invariant-loop decreases-loop
-loop-less c = let f = step c.before.before.before in omega arith
+loop-less : tie.Need-loop-typ-smaller invariant-loop decreases-loop
+loop-less c = let f = step c.before.before in omega arith
 
-loop-again : tie.Need-loop-preserved invariant-loop decreases-loop
+loop-again : tie.Need-loop-typ-preserved invariant-loop decreases-loop
 loop-again c =
-    argument_later c.before.before.before.before.before.before.loop.invariant (step c.before.before.before) c.before.if1.false c.if2.false
+    argument_later c.loop-typ.invariant (step c.before.before) c.if-typ-eq-VALUE.false c.if-typ-eq-TAG.false
 
-returns-3 : tie.Need-returns-3 invariant-loop decreases-loop
-returns-3 c = argument_none c.before.before.before.loop.invariant (stop_end _ _ c.before.before.element.ensures c.enum_told.given.1)
+returns-3 : tie.Need-returns-in-End invariant-loop decreases-loop
+returns-3 c = argument_none c.loop-typ.invariant (stop_end _ _ c.element.ensures c.in-End.is)
 
-returns-4 : tie.Need-returns-4 invariant-loop decreases-loop
-returns-4 c = argument_none c.before.before.before.loop.invariant (stop_malformed _ _ c.before.before.element.ensures c.enum-told2.given.1)
+returns-4 : tie.Need-returns-in-Malformed invariant-loop decreases-loop
+returns-4 c = argument_none c.loop-typ.invariant (stop_malformed _ _ c.element.ensures c.in-Malformed.is)
 
-pub argument-of-spec : {M : Type 1} → statement M
-argument-of-spec =
+pub argument_of_spec : {M : Type 1} → statement M
+argument_of_spec =
     tie.close
     (tie.spec
     invariant-loop

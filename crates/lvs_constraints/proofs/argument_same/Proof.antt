@@ -8,32 +8,32 @@ use Rattle.lvs_constraints.proofs.argument_same.Statement.{statement}
 use Rattle.lvs_constraints.proofs.argument_same.Tie as tie
 
 -- where the function began, and the Value that the argument holds
-abbrev began : tie.After-argument-of → tie.Start
+abbrev began : tie.After-argument_of → tie.Start
 began r = r.before.before.before.before.before
 
-value : (c : tie.After-start) → ValueAt (began c.before.before).args.s.now c.start.given.0.0 c.start.given.0.1.0
-value c = subst (ArgumentAt _) c.start.given.1 c.before.before.argument-of.ensures
+value : (c : tie.In-Value) → ValueAt (began c.before).args.s.now c.in-Value.start c.in-Value.end
+value c = subst (ArgumentAt _) c.in-Value.is c.argument_of.ensures
 
-sub-compare : tie.Need-overflow-sub-compare
-sub-compare c = (value c.before).order
+sub-compare : tie.Need-slice_bounds-compare-count
+sub-compare c = (value c).order
 
-part-compare-start : tie.Need-slice-bounds-compare-start
-part-compare-start c = (value c.before).order
+part-compare-start : tie.Need-slice_bounds-compare-start
+part-compare-start c = (value c).order
 
-part-compare-end : tie.Need-slice-bounds-compare-end
-part-compare-end c = (value c.before).within
+part-compare-end : tie.Need-slice_bounds-compare-end
+part-compare-end c = (value c).within
 
-returns : tie.Need-returns
+returns : tie.Need-returns-in-Value
 unfolding argument_in
-returns c = c.compare.ensures.equal ∙ sym (rw (value c.before.before.before).is)
+returns c = c.compare.ensures.equal ∙ sym (rw (value c.before.before).is)
 
-returns-2 : tie.Need-returns-2
+returns-2 : tie.Need-returns-in-Tag
 returns-2 c =
-    let t = c.before.before in
-    c.bound_same.ensures ∙ bound_argument _ _ _ ∙ sym (rw (subst (ArgumentAt _) t.tag.given.1 t.before.before.argument-of.ensures))
+    let t = c.before in
+    c.bound_same.ensures ∙ bound_argument _ _ _ ∙ sym (rw (subst (ArgumentAt _) t.in-Tag.is t.argument_of.ensures))
 
-pub argument-same-spec : {M : Type 1} → statement M
-argument-same-spec =
+pub argument_same_spec : {M : Type 1} → statement M
+argument_same_spec =
     tie.close
     (tie.spec
     (λ c κs. search rules)

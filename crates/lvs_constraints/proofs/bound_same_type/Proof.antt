@@ -6,27 +6,27 @@ use Rattle.lvs_constraints.proofs.bound_same_type.Statement.{statement}
 use Rattle.lvs_constraints.proofs.bound_same_type.Tie as tie
 
 -- where the Tag's slot was read, and where the function began
-abbrev read : tie.After-text-from → tie.After-slot-of
+abbrev read : tie.After-text_from → tie.After-slot_of-slot
 read c = c.before.before.before.before
 
-abbrev start : tie.After-slot-of → tie.Start
+abbrev start : tie.After-slot_of-slot → tie.Start
 start c = c.before.before.before.before
 
-returns : tie.Need-returns
+returns : tie.Need-returns-then-slot-eq0
 returns c =
     let s = c.before.before in
     let a = (start s).args in
-    sym (tag_none (start s).requires s.slot_of.ensures a.packet.now a.key.now _ c.if1.true)
+    sym (tag_none (start s).requires s.slot_of-slot.ensures a.packet.now a.key.now _ c.if-slot-eq0.true)
 
-returns-2 : tie.Need-returns-2
+returns-2 : tie.Need-returns
 returns-2 c =
     let s = read c.before in
     let a = (start s).args in
-    let bound = tag_some (start s).pre s.slot_of.ensures a.packet.now a.key.now _ c.before.before.before.if1.false in
-    c.same-type.ensures ∙ rw c.before.text-from.ensures (sym (bound))
+    let bound = tag_some (start s).requires s.slot_of-slot.ensures a.packet.now a.key.now _ c.if-slot-eq0.false in
+    c.same_type.ensures ∙ rw c.text_from.ensures (sym (bound))
 
-pub bound-same-type-spec : {M : Type 1} → statement M
-bound-same-type-spec =
+pub bound_same_type_spec : {M : Type 1} → statement M
+bound_same_type_spec =
     tie.close
     (tie.spec
     (λ c κs. search rules)

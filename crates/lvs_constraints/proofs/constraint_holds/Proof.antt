@@ -13,63 +13,63 @@ use Rattle.lvs_bindings.specs.Slots.{bindings_of}
 use Rattle.lvs_constraints.proofs.constraint_holds.Statement.{statement}
 use Rattle.lvs_constraints.proofs.constraint_holds.Tie as tie
 
-abbrev invariant-loop : tie.invariant-loop
+abbrev invariant-loop : tie.invariant-loop-typ
 invariant-loop s packet key slots c header place₀ place =
     Gathered (some_of (option_holds (bindings_of packet key slots) (component_of c))) constraint_of s place.at false
 
-abbrev decreases-loop : tie.decreases-loop
+abbrev decreases-loop : tie.decreases-loop-typ
 decreases-loop s packet key slots c header place₀ place = length s - place.at
 
 -- the element that was found
-step : (c : tie.After-typ invariant-loop decreases-loop) → SeenOf _ _ c.before.before.element.ensures c.typ.given.1
-step c = seen _ _ c.before.before.element.ensures c.typ.given.1
+step : (c : tie.In-Found invariant-loop decreases-loop) → SeenOf _ _ c.element.ensures c.in-Found.is
+step c = seen _ _ c.element.ensures c.in-Found.is
 
-loop-holds : tie.Need-loop-init invariant-loop decreases-loop
+loop-holds : tie.Need-loop-typ-init invariant-loop decreases-loop
 loop-holds c = started
 
-sub-option-holds : tie.Need-overflow-sub-option-holds invariant-loop decreases-loop
-sub-option-holds c = (step c.before.before).order
+sub-option-holds : tie.Need-slice_bounds-option_holds-count invariant-loop decreases-loop
+sub-option-holds c = (step c.before).order
 
-part-option-holds-start : tie.Need-slice-bounds-option-holds-start invariant-loop decreases-loop
-part-option-holds-start c = (step c.before.before).order
+part-option-holds-start : tie.Need-slice_bounds-option_holds-start invariant-loop decreases-loop
+part-option-holds-start c = (step c.before).order
 
-part-option-holds-end : tie.Need-slice-bounds-option-holds-end invariant-loop decreases-loop
-part-option-holds-end c = (step c.before.before).within
+part-option-holds-end : tie.Need-slice_bounds-option_holds-end invariant-loop decreases-loop
+part-option-holds-end c = (step c.before).within
 
-returns : tie.Need-returns invariant-loop decreases-loop
+returns : tie.Need-returns-then-option_holds invariant-loop decreases-loop
 unfolding constraint_holds constraint_of
 returns c =
-    let d = c.before.before.before.before.before in
-    let e = read_found option_of type.ConstraintOption (step d) c.before.before.before.if1.true in
-    some_here d.before.before.before.loop.invariant e c.before.option-holds.ensures c.if2.true
+    let d = c.before.before.before.before in
+    let e = read_found option_of type.ConstraintOption (step d) c.if-typ-eq-CONSTRAINT_OPTION.true in
+    some_here d.loop-typ.invariant e c.option_holds.ensures c.if-option_holds.true
 
-loop-less : tie.Need-loop-smaller invariant-loop decreases-loop
-loop-less c = let st = step c.before.before.before.before.before in omega arith
+loop-less : tie.Need-loop-typ-smaller-else-option_holds invariant-loop decreases-loop
+loop-less c = let st = step c.before.before.before.before in omega arith
 
-loop-again : tie.Need-loop-preserved invariant-loop decreases-loop
+loop-again : tie.Need-loop-typ-preserved-else-option_holds invariant-loop decreases-loop
 unfolding constraint_of
 loop-again c =
-    let d = c.before.before.before.before.before in
-    let e = read_found option_of type.ConstraintOption (step d) c.before.before.before.if1.true in
-    some_later d.before.before.before.loop.invariant e c.before.option-holds.ensures c.if2.false
+    let d = c.before.before.before.before in
+    let e = read_found option_of type.ConstraintOption (step d) c.if-typ-eq-CONSTRAINT_OPTION.true in
+    some_later d.loop-typ.invariant e c.option_holds.ensures c.if-option_holds.false
 
-loop-less-2 : tie.Need-loop-smaller-2 invariant-loop decreases-loop
-loop-less-2 c = let st = step c.before.before in omega arith
+loop-less-2 : tie.Need-loop-typ-smaller invariant-loop decreases-loop
+loop-less-2 c = let st = step c.before in omega arith
 
-loop-again-2 : tie.Need-loop-preserved-2 invariant-loop decreases-loop
+loop-again-2 : tie.Need-loop-typ-preserved invariant-loop decreases-loop
 unfolding constraint_of
-loop-again-2 c = passed c.before.before.before.before.before.loop.invariant (read_other _ _ (step c.before.before) c.if1.false)
+loop-again-2 c = passed c.loop-typ.invariant (read_other _ _ (step c.before) c.if-typ-eq-CONSTRAINT_OPTION.false)
 
-returns-2 : tie.Need-returns-2 invariant-loop decreases-loop
+returns-2 : tie.Need-returns-in-End invariant-loop decreases-loop
 unfolding constraint_holds constraint_of
-returns-2 c = ended c.before.before.before.loop.invariant (read_stop _ _ (stop_end _ _ c.before.before.element.ensures c.enum_told.given.1))
+returns-2 c = ended c.loop-typ.invariant (read_stop _ _ (stop_end _ _ c.element.ensures c.in-End.is))
 
-returns-3 : tie.Need-returns-3 invariant-loop decreases-loop
+returns-3 : tie.Need-returns-in-Malformed invariant-loop decreases-loop
 unfolding constraint_holds constraint_of
-returns-3 c = ended c.before.before.before.loop.invariant (read_stop _ _ (stop_malformed _ _ c.before.before.element.ensures c.enum-told2.given.1))
+returns-3 c = ended c.loop-typ.invariant (read_stop _ _ (stop_malformed _ _ c.element.ensures c.in-Malformed.is))
 
-pub constraint-holds-spec : {M : Type 1} → statement M
-constraint-holds-spec =
+pub constraint_holds_spec : {M : Type 1} → statement M
+constraint_holds_spec =
     tie.close
     (tie.spec
     invariant-loop

@@ -12,54 +12,54 @@ use Rattle.lvs_bindings.specs.Slots.{bindings_of}
 use Rattle.lvs_constraints.proofs.option_holds.Statement.{statement}
 use Rattle.lvs_constraints.proofs.option_holds.Tie as tie
 
-abbrev invariant-loop : tie.invariant-loop
+abbrev invariant-loop : tie.invariant-loop-typ
 invariant-loop s packet key slots c header place₀ place =
     Gathered (some_of (term_holds (bindings_of packet key slots) (component_of c))) (over term_from) s place.at false
 
-abbrev decreases-loop : tie.decreases-loop
+abbrev decreases-loop : tie.decreases-loop-typ
 decreases-loop s packet key slots c header place₀ place = length s - place.at
 
 -- the element that was found
-step : (c : tie.After-typ invariant-loop decreases-loop) → SeenOf _ _ c.before.before.element.ensures c.typ.given.1
-step c = seen _ _ c.before.before.element.ensures c.typ.given.1
+step : (c : tie.In-Found invariant-loop decreases-loop) → SeenOf _ _ c.element.ensures c.in-Found.is
+step c = seen _ _ c.element.ensures c.in-Found.is
 
-loop-holds : tie.Need-loop-init invariant-loop decreases-loop
+loop-holds : tie.Need-loop-typ-init invariant-loop decreases-loop
 loop-holds c = started
 
-sub-term-holds : tie.Need-overflow-sub-term-holds invariant-loop decreases-loop
-sub-term-holds c = (step c.before).order
+sub-term-holds : tie.Need-slice_bounds-term_holds-count invariant-loop decreases-loop
+sub-term-holds c = (step c).order
 
-part-term-holds-start : tie.Need-slice-bounds-term-holds-start invariant-loop decreases-loop
-part-term-holds-start c = (step c.before).order
+part-term-holds-start : tie.Need-slice_bounds-term_holds-start invariant-loop decreases-loop
+part-term-holds-start c = (step c).order
 
-part-term-holds-end : tie.Need-slice-bounds-term-holds-end invariant-loop decreases-loop
-part-term-holds-end c = (step c.before).within
+part-term-holds-end : tie.Need-slice_bounds-term_holds-end invariant-loop decreases-loop
+part-term-holds-end c = (step c).within
 
-returns : tie.Need-returns invariant-loop decreases-loop
+returns : tie.Need-returns-then-term_holds invariant-loop decreases-loop
 unfolding option_holds option_of
 returns c =
-    let d = c.before.before.before.before in
-    some_in_it term_from d.before.before.before.loop.invariant (step d) c.before.term-holds.ensures c.if1.true
+    let d = c.before.before.before in
+    some_in_it term_from d.loop-typ.invariant (step d) c.term_holds.ensures c.if-term_holds.true
 
-loop-less : tie.Need-loop-smaller invariant-loop decreases-loop
-loop-less c = let st = step c.before.before.before.before in omega arith
+loop-less : tie.Need-loop-typ-smaller invariant-loop decreases-loop
+loop-less c = let st = step c.before.before.before in omega arith
 
-loop-again : tie.Need-loop-preserved invariant-loop decreases-loop
+loop-again : tie.Need-loop-typ-preserved invariant-loop decreases-loop
 loop-again c =
-    let d = c.before.before.before.before in
-    none_in_it term_from d.before.before.before.loop.invariant (step d) c.before.term-holds.ensures c.if1.false
+    let d = c.before.before.before in
+    none_in_it term_from d.loop-typ.invariant (step d) c.term_holds.ensures c.if-term_holds.false
 
-returns-2 : tie.Need-returns-2 invariant-loop decreases-loop
+returns-2 : tie.Need-returns-in-End invariant-loop decreases-loop
 unfolding option_holds option_of
-returns-2 c = ended c.before.before.before.loop.invariant (each_stop term_from (stop_end _ _ c.before.before.element.ensures c.enum_told.given.1))
+returns-2 c = ended c.loop-typ.invariant (each_stop term_from (stop_end _ _ c.element.ensures c.in-End.is))
 
-returns-3 : tie.Need-returns-3 invariant-loop decreases-loop
+returns-3 : tie.Need-returns-in-Malformed invariant-loop decreases-loop
 unfolding option_holds option_of
 returns-3 c =
-    ended c.before.before.before.loop.invariant (each_stop term_from (stop_malformed _ _ c.before.before.element.ensures c.enum-told2.given.1))
+    ended c.loop-typ.invariant (each_stop term_from (stop_malformed _ _ c.element.ensures c.in-Malformed.is))
 
-pub option-holds-spec : {M : Type 1} → statement M
-option-holds-spec =
+pub option_holds_spec : {M : Type 1} → statement M
+option_holds_spec =
     tie.close
     (tie.spec
     invariant-loop

@@ -5,20 +5,20 @@ use Rattle.lvs_constraints.proofs.Holds.{term_value, term_tag, term_call, term_n
 use Rattle.lvs_constraints.proofs.term_holds.Statement.{statement}
 use Rattle.lvs_constraints.proofs.term_holds.Tie as tie
 
-returns : tie.Need-returns
-returns c = c.compare.ensures.equal ∙ sym (term_value _ _ _ _ c.before.if1.true)
+returns : tie.Need-returns-then-typ-eq-VALUE
+returns c = c.compare.ensures.equal ∙ sym (term_value _ _ _ _ c.if-typ-eq-VALUE.true)
 
-returns-2 : tie.Need-returns-2
-returns-2 c = c.bound_same.ensures ∙ rw c.before.number_of_lem.ensures (sym (term_tag _ _ _ _ c.before.before.if2.true))
+returns-2 : tie.Need-returns-then-typ-eq-TAG
+returns-2 c = c.bound_same.ensures ∙ rw c.number_of.ensures (sym (term_tag _ _ _ _ c.if-typ-eq-TAG.true))
 
-returns-3 : tie.Need-returns-3
-returns-3 c = c.call-holds.ensures ∙ sym (term_call _ _ _ _ c.before.if3.true)
+returns-3 : tie.Need-returns-then-typ-eq-USER_FN_CALL
+returns-3 c = c.call_holds.ensures ∙ sym (term_call _ _ _ _ c.if-typ-eq-USER_FN_CALL.true)
 
-returns-4 : tie.Need-returns-4
-returns-4 c = sym (term_none _ _ _ _ c.before.before.if1.false c.before.if2.false c.if3.false)
+returns-4 : tie.Need-returns
+returns-4 c = sym (term_none _ _ _ _ c.if-typ-eq-VALUE.false c.if-typ-eq-TAG.false c.if-typ-eq-USER_FN_CALL.false)
 
-pub term-holds-spec : {M : Type 1} → statement M
-term-holds-spec =
+pub term_holds_spec : {M : Type 1} → statement M
+term_holds_spec =
     tie.close
     (tie.spec
     (λ c κs. search rules)

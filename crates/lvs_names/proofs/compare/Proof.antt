@@ -31,7 +31,7 @@ returns-2 : tie.Need-returns-then-not-same_header
 returns-2 c =
     let h = c.before in
     let d = sizes h in
-    compared_header _ _ (bytes-s d) (bytes-c d) (start d).requires h.if-s-n.false h.same_header.ensures (not-true _ c.if-not-same_header.true)
+    compared_header _ _ (bytes-s d) (bytes-c d) (start d).requires h.if-s-n.false h.same_header.ensures c.if-not-same_header.true
 
 last-difference-requires : tie.Need-last_difference-left-requires
 last-difference-requires c κs = let d = sizes c.before in headed _ _ (bytes-s d) (bytes-c d) (start d).requires (omega arith)
@@ -41,7 +41,7 @@ returns-3 c =
     let last = c.before in
     let h = last.before.before in
     let d = sizes h in
-    compared_equal _ _ (bytes-s d) (bytes-c d) (start d).requires h.if-s-n.false h.same_header.ensures (not-false _ last.if-not-same_header.false)
+    compared_equal _ _ (bytes-s d) (bytes-c d) (start d).requires h.if-s-n.false h.same_header.ensures last.if-not-same_header.false
     last.last_difference-left.ensures c.if-left-header.true
 
 returns-4 : tie.Need-returns
@@ -49,7 +49,7 @@ returns-4 c =
     let last = c.before in
     let h = last.before.before in
     let d = sizes h in
-    compared_unequal _ _ (bytes-s d) (bytes-c d) (start d).requires h.if-s-n.false h.same_header.ensures (not-false _ last.if-not-same_header.false)
+    compared_unequal _ _ (bytes-s d) (bytes-c d) (start d).requires h.if-s-n.false h.same_header.ensures last.if-not-same_header.false
     last.last_difference-left.ensures c.if-left-header.false
 
 pub compare_spec : {M : Type 1} → statement M
@@ -62,6 +62,6 @@ compare_spec =
     last-difference-requires
     (λ c. omega arith)
     returns-3
-    (λ c. omega (arith, c.before.last-difference.ensures.behind.high))
+    (λ c. omega (arith, c.last_difference-left.ensures.behind.high))
     (λ c. omega arith)
     returns-4)

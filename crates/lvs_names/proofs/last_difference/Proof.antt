@@ -22,7 +22,7 @@ sub-if1 : tie.Need-overflow_sub-left invariant-loop decreases-loop
 sub-if1 c = omega arith
 
 shared-slice-read-if1 : tie.Need-bounds-s-left invariant-loop decreases-loop
-shared-slice-read-if1 c = let l = turn c in omega (arith, l.loop-left.invariant.high, l.requires.long)
+shared-slice-read-if1 c = omega (arith, c.loop-left.invariant.high, c.requires.long)
 
 sub-if1-2 : tie.Need-overflow_sub-left-in-loop-left invariant-loop decreases-loop
 sub-if1-2 c = omega arith

@@ -16,7 +16,7 @@ abbrev began : tie.Else-s-c-2 → tie.Start
 began c = start (second c).before.before
 
 shared-slice-read-if1 : tie.Need-bounds-s-1
-shared-slice-read-if1 c = let p = (start c).requires in omega (arith, p.some, p.within, p.long)
+shared-slice-read-if1 c = omega (arith, c.requires.some, c.requires.within, c.requires.long)
 
 shared-slice-read-if1-2 : tie.Need-bounds-c-1
 shared-slice-read-if1-2 c = let p = (start c.before).requires in omega (arith, p.some, p.within)

@@ -78,56 +78,56 @@ abbrev item-rule-need : (item-rule-lts.Claims → In 1 item-rule-kinds.ps → Ou
 item-rule-need N t = N (item-rule-calls t) (item-rule-at t) item-rule.Post
 
 item-rule-sweep-requires : (t : ℕ) → item-rule-need item-rule-lts.Need-sweep-requires t
-item-rule-sweep-requires t c κs = (omega (arith, c.before.before.before.before.requires.0), tt)
+item-rule-sweep-requires t c κs = (omega (arith, c.requires.0), tt)
 
-item-rule-sweep-requires-2 : (t : ℕ) → item-rule-need item-rule-lts.Need-sweep-requires-2 t
-item-rule-sweep-requires-2 t c κs = (omega (arith, c.before.before.before.requires.0), tt)
+item-rule-sweep-requires-2 : (t : ℕ) → item-rule-need item-rule-lts.Need-sweep-tags-requires t
+item-rule-sweep-requires-2 t c κs = (omega (arith, c.requires.0), tt)
 
-item-rule-sweep-requires-3 : (t : ℕ) → item-rule-need item-rule-lts.Need-sweep-requires-3 t
-item-rule-sweep-requires-3 t c κs = (omega (arith, c.before.before.before.before.requires.0), tt)
+item-rule-sweep-requires-3 : (t : ℕ) → item-rule-need item-rule-lts.Need-sweep-calls-requires t
+item-rule-sweep-requires-3 t c κs = (omega (arith, c.requires.0), tt)
 
-item-rule-sweep-requires-4 : (t : ℕ) → item-rule-need item-rule-lts.Need-sweep-requires-4 t
-item-rule-sweep-requires-4 t c κs = (omega (arith, c.before.before.before.requires.0), tt)
+item-rule-sweep-requires-4 : (t : ℕ) → item-rule-need item-rule-lts.Need-sweep-requires-in-Constraint t
+item-rule-sweep-requires-4 t c κs = (omega (arith, c.requires.0), tt)
 
-item-rule-sweep-requires-5 : (t : ℕ) → item-rule-need item-rule-lts.Need-sweep-requires-5 t
-item-rule-sweep-requires-5 t c κs = (omega (arith, c.before.before.before.before.before.requires.0), tt)
+item-rule-sweep-requires-5 : (t : ℕ) → item-rule-need item-rule-lts.Need-sweep-requires-in-PatternEdge t
+item-rule-sweep-requires-5 t c κs = (omega (arith, c.requires.0), tt)
 
-item-rule-returns : (t : ℕ) → item-rule-need item-rule-lts.Need-returns t
-item-rule-returns t c = argument_item _ _ c.before.enum_told.given.1 c.argument-rule.ensures
+item-rule-returns : (t : ℕ) → item-rule-need item-rule-lts.Need-returns-in-Argument t
+item-rule-returns t c = argument_item _ _ c.in-Argument.is c.argument_rule.ensures
 
-item-rule-returns-2 : (t : ℕ) → item-rule-need item-rule-lts.Need-returns-2 t
+item-rule-returns-2 : (t : ℕ) → item-rule-need item-rule-lts.Need-returns-in-Call t
 item-rule-returns-2 t c =
     let own = c.before.before in
-    call_item _ _ own.before.enum-told2.given.1 own.arguments-rule.ensures c.before.sweep.ensures c.lower.ensures
+    call_item _ _ own.in-Call.is own.arguments_rule.ensures c.sweep.ensures c.lower.ensures
 
-item-rule-returns-3 : (t : ℕ) → item-rule-need item-rule-lts.Need-returns-3 t
-item-rule-returns-3 t c = tag_item _ _ c.before.before.enum-told3.given.1 c.before.number_of_lem.ensures c.tag-rule.ensures
+item-rule-returns-3 : (t : ℕ) → item-rule-need item-rule-lts.Need-returns-in-Tag t
+item-rule-returns-3 t c = tag_item _ _ c.in-Tag.is c.number_of.ensures c.tag_rule.ensures
 
-item-rule-returns-4 : (t : ℕ) → item-rule-need item-rule-lts.Need-returns-4 t
+item-rule-returns-4 : (t : ℕ) → item-rule-need item-rule-lts.Need-returns-in-ConstraintOption t
 item-rule-returns-4 t c =
     let own = c.before.before in
     let calls = own.before in
     let tags = calls.before in
-    option_item _ _ tags.before.enum-told4.given.1 own.terms-rule.ensures tags.sweep2.ensures calls.sweep3.ensures
-    c.before.lower2.ensures
-    c.lower3.ensures
+    option_item _ _ tags.in-ConstraintOption.is own.terms_rule.ensures tags.sweep-tags.ensures calls.sweep-calls.ensures
+    c.lower-in-ConstraintOption.ensures
+    c.lower-in-ConstraintOption-2.ensures
 
-item-rule-returns-5 : (t : ℕ) → item-rule-need item-rule-lts.Need-returns-5 t
-item-rule-returns-5 t c = constraint_item _ _ c.before.enum-told5.given.1 c.sweep4.ensures
+item-rule-returns-5 : (t : ℕ) → item-rule-need item-rule-lts.Need-returns-in-Constraint t
+item-rule-returns-5 t c = constraint_item _ _ c.in-Constraint.is c.sweep-in-Constraint.ensures
 
-item-rule-returns-6 : (t : ℕ) → item-rule-need item-rule-lts.Need-returns-6 t
+item-rule-returns-6 : (t : ℕ) → item-rule-need item-rule-lts.Need-returns-in-PatternEdge t
 item-rule-returns-6 t c =
     let constraints = c.before in
     let tag = constraints.before in
-    pattern_edge_item _ _ tag.before.before.enum-told6.given.1 tag.before.number_in.ensures tag.tag-rule2.ensures
-    constraints.sweep5.ensures
-    c.lower4.ensures
+    pattern_edge_item _ _ tag.in-PatternEdge.is tag.number_in.ensures tag.tag_rule-tag.ensures
+    constraints.sweep-in-PatternEdge.ensures
+    c.lower-in-PatternEdge.ensures
 
-item-rule-returns-7 : (t : ℕ) → item-rule-need item-rule-lts.Need-returns-7 t
-item-rule-returns-7 t c = signer_item _ _ c.before.before.enum-told7.given.1 c.before.number-of2.ensures c.named_Rule.ensures
+item-rule-returns-7 : (t : ℕ) → item-rule-need item-rule-lts.Need-returns-in-Signer t
+item-rule-returns-7 t c = signer_item _ _ c.in-Signer.is c.number_of-in-Signer.ensures c.named_rule.ensures
 
-item-rule-returns-8 : (t : ℕ) → item-rule-need item-rule-lts.Need-returns-8 t
-item-rule-returns-8 t c = symbol_item _ _ c.before.before.enum-told8.given.1 c.before.number-in2.ensures c.tag-rule3.ensures
+item-rule-returns-8 : (t : ℕ) → item-rule-need item-rule-lts.Need-returns-in-Symbol t
+item-rule-returns-8 t c = symbol_item _ _ c.in-Symbol.is c.number_in-in-Symbol.ensures c.tag_rule-in-Symbol.ensures
 
 abbrev sweep-calls : ℕ → sweep-lts.Claims
 sweep-calls t = (
@@ -141,67 +141,67 @@ sweep-calls t = (
   lower-reads.Learnt,
 )
 
-abbrev sweep-Inv-loop : sweep-lts.invariant-loop
+abbrev sweep-Inv-loop : sweep-lts.invariant-loop-typ
 sweep-Inv-loop s sort n wanted rule₀ place₀ rule place =
     Gathered (least (item_rule n sort)) (insides (type_of sort)) s place.at rule
 
-abbrev sweep-μ-loop : sweep-lts.decreases-loop
+abbrev sweep-μ-loop : sweep-lts.decreases-loop-typ
 sweep-μ-loop s sort n wanted rule₀ place₀ rule place = length s - place.at
 
-abbrev sweep-need : (sweep-lts.Claims → In 1 sweep-kinds.ps → Out 1 sweep-kinds.ps sweep-kinds.r → sweep-lts.invariant-loop → sweep-lts.decreases-loop → Type 0)
+abbrev sweep-need : (sweep-lts.Claims → In 1 sweep-kinds.ps → Out 1 sweep-kinds.ps sweep-kinds.r → sweep-lts.invariant-loop-typ → sweep-lts.decreases-loop-typ → Type 0)
     → ℕ → Type 0
 sweep-need N t = N (sweep-calls t) (sweep-at t) sweep.Post sweep-Inv-loop sweep-μ-loop
 
 -- at an element that was found
-module _ (t : ℕ) (c : sweep-need sweep-lts.After-typ t) where
-  step : SeenOf _ _ c.before.before.element.ensures c.typ.given.1
-  step = seen _ _ c.before.before.element.ensures c.typ.given.1
+module _ (t : ℕ) (c : sweep-need sweep-lts.In-Found t) where
+  step : SeenOf _ _ c.element.ensures c.in-Found.is
+  step = seen _ _ c.element.ensures c.in-Found.is
 
-sweep-loop-holds : (t : ℕ) → sweep-need sweep-lts.Need-loop-init t
+sweep-loop-holds : (t : ℕ) → sweep-need sweep-lts.Need-loop-typ-init t
 sweep-loop-holds t c = none_swept _ _ _
 
-sweep-sub-item-rule : (t : ℕ) → sweep-need sweep-lts.Need-overflow-sub-item-rule t
-sweep-sub-item-rule t c = omega (arith, step t c.before.before)
+sweep-sub-item-rule : (t : ℕ) → sweep-need sweep-lts.Need-slice_bounds-item_rule-count t
+sweep-sub-item-rule t c = omega (arith, step t c.before)
 
-sweep-part-item-rule-start : (t : ℕ) → sweep-need sweep-lts.Need-slice-bounds-item-rule-start t
-sweep-part-item-rule-start t c = omega (arith, step t c.before.before)
+sweep-part-item-rule-start : (t : ℕ) → sweep-need sweep-lts.Need-slice_bounds-item_rule-start t
+sweep-part-item-rule-start t c = omega (arith, step t c.before)
 
-sweep-part-item-rule-end : (t : ℕ) → sweep-need sweep-lts.Need-slice-bounds-item-rule-end t
-sweep-part-item-rule-end t c = omega (arith, step t c.before.before)
+sweep-part-item-rule-end : (t : ℕ) → sweep-need sweep-lts.Need-slice_bounds-item_rule-end t
+sweep-part-item-rule-end t c = omega (arith, step t c.before)
 
-sweep-item-rule-requires : (t : ℕ) → sweep-need sweep-lts.Need-item-rule-requires t
+sweep-item-rule-requires : (t : ℕ) → sweep-need sweep-lts.Need-item_rule-requires t
 sweep-item-rule-requires t c κs =
-    let turn = c.before.before.before in
-    (simp (length-take, length-drop) (omega (arith, turn.before.before.before.before.before.before.requires.0, step t turn)), tt)
+    let turn = c.before.before in
+    (simp (length-take, length-drop) (omega (arith, turn.requires.0, step t turn)), tt)
 
-sweep-loop-less : (t : ℕ) → sweep-need sweep-lts.Need-loop-smaller t
-sweep-loop-less t c = omega (arith, step t c.before.before.before.before.before)
+sweep-loop-less : (t : ℕ) → sweep-need sweep-lts.Need-loop-typ-smaller-then-typ-wanted t
+sweep-loop-less t c = omega (arith, step t c.before.before.before.before)
 
-sweep-loop-again : (t : ℕ) → sweep-need sweep-lts.Need-loop-preserved t
+sweep-loop-again : (t : ℕ) → sweep-need sweep-lts.Need-loop-typ-preserved-then-typ-wanted t
 sweep-loop-again t c =
     let item = c.before.before.before in
-    let turn = item.before.before in
-    let loop = turn.before.before.before in
-    sweep_found _ loop.loop.invariant (step t turn) (item.if1.true ∙ loop.before.type-of.ensures) c.before.item-rule.ensures c.lower.ensures
+    let turn = item.before in
+    let loop = turn.before.before in
+    sweep_found _ loop.loop-typ.invariant (step t turn) (item.if-typ-wanted.true ∙ loop.type_of-wanted.ensures) c.item_rule.ensures c.lower-rule.ensures
 
-sweep-loop-less-2 : (t : ℕ) → sweep-need sweep-lts.Need-loop-smaller-2 t
-sweep-loop-less-2 t c = omega (arith, step t c.before.before)
+sweep-loop-less-2 : (t : ℕ) → sweep-need sweep-lts.Need-loop-typ-smaller t
+sweep-loop-less-2 t c = omega (arith, step t c.before)
 
-sweep-loop-again-2 : (t : ℕ) → sweep-need sweep-lts.Need-loop-preserved-2 t
+sweep-loop-again-2 : (t : ℕ) → sweep-need sweep-lts.Need-loop-typ-preserved t
 sweep-loop-again-2 t c =
-    let turn = c.before.before in
-    let loop = turn.before.before.before in
-    passed loop.loop.invariant (insides_other _ (step t turn) (λ e. c.if1.false (e ∙ sym loop.before.type-of.ensures)))
+    let turn = c.before in
+    let loop = turn.before.before in
+    passed loop.loop-typ.invariant (insides_other _ (step t turn) (λ e. c.if-typ-wanted.false (e ∙ sym loop.type_of-wanted.ensures)))
 
-sweep-returns : (t : ℕ) → sweep-need sweep-lts.Need-returns t
-sweep-returns t c = ended c.before.before.before.loop.invariant (insides_stop _ (stop_end _ _ c.before.before.element.ensures c.enum_told.given.1))
+sweep-returns : (t : ℕ) → sweep-need sweep-lts.Need-returns-in-End t
+sweep-returns t c = ended c.loop-typ.invariant (insides_stop _ (stop_end _ _ c.element.ensures c.in-End.is))
 
-sweep-returns-2 : (t : ℕ) → sweep-need sweep-lts.Need-returns-2 t
+sweep-returns-2 : (t : ℕ) → sweep-need sweep-lts.Need-returns-in-Malformed t
 sweep-returns-2 t c =
-    ended c.before.before.before.loop.invariant (insides_stop _ (stop_malformed _ _ c.before.before.element.ensures c.enum-told2.given.1))
+    ended c.loop-typ.invariant (insides_stop _ (stop_malformed _ _ c.element.ensures c.in-Malformed.is))
 
-pub +item-rule-sweep-spec : {M : Type 1} → statement M
-+item-rule-sweep-spec = close μ-item-rule μ-sweep (λ t. item-rule-lts.spec (item-rule-calls t)
+pub +item_rule_sweep_spec : {M : Type 1} → statement M
++item_rule_sweep_spec = close μ-item-rule μ-sweep (λ t. item-rule-lts.spec (item-rule-calls t)
     (item-rule-at t)
     item-rule.Post
     (λ c. search rules)

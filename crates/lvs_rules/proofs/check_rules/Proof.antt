@@ -4,19 +4,19 @@ use borrow.Author.Rules.{rules}
 use Rattle.lvs_rules.proofs.check_rules.Statement.{statement}
 use Rattle.lvs_rules.proofs.check_rules.Tie as tie
 
-returns : tie.Need-returns
-returns c = too_many _ c.before.count_of.ensures c.if1.true
+returns : tie.Need-returns-then-n-gt-MAX_NODES
+returns c = too_many _ c.count_of-n.ensures c.if-n-gt-MAX_NODES.true
 
-slice-aggregate-parents : tie.Need-slice-aggregate-parents
-slice-aggregate-parents c = as_many _ c.before.before.before.count_of.ensures _ c.before.parents-of.ensures
+slice-aggregate-parents : tie.Need-slice_bounds-parents-end
+slice-aggregate-parents c = as_many _ c.count_of-n.ensures _ c.parents_of-all.ensures
 
-lowest-fault-requires : tie.Need-lowest-fault-requires
+lowest-fault-requires : tie.Need-lowest_fault-fault-requires
 lowest-fault-requires c κs =
     let parents = c.before.before in
     let few = parents.before in
-    few_enough _ few.before.count_of.ensures _ parents.parents-of.ensures few.if1.false
+    few_enough _ few.count_of-n.ensures _ parents.parents_of-all.ensures few.if-n-gt-MAX_NODES.false
 
-returns-2 : tie.Need-returns-2
+returns-2 : tie.Need-returns
 returns-2 c =
     let named = c.before.before in
     let symbols = named.before in
@@ -24,14 +24,14 @@ returns-2 c =
     let start = nodes.before in
     let parents = start.before.before in
     let few = parents.before in
-    found _ few.before.count_of.ensures _ parents.parents-of.ensures few.if1.false start.number_in.ensures nodes.lowest-fault.ensures
-    symbols.sweep.ensures
-    named.named_Rule.ensures
-    c.before.lower.ensures
+    found _ few.count_of-n.ensures _ parents.parents_of-all.ensures few.if-n-gt-MAX_NODES.false start.number_in-start.ensures nodes.lowest_fault-fault.ensures
+    symbols.sweep-symbols.ensures
+    named.named_rule.ensures
+    c.lower.ensures
     c.conclude.ensures
 
-pub check-rules-spec : {M : Type 1} → statement M
-check-rules-spec =
+pub check_rules_spec : {M : Type 1} → statement M
+check_rules_spec =
     tie.close
     (tie.spec
     (λ c κs. search rules)

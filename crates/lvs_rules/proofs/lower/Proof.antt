@@ -3,10 +3,10 @@ use native.Mathlib.Omega.{arith}
 use Rattle.lvs_rules.proofs.lower.Statement.{statement}
 use Rattle.lvs_rules.proofs.lower.Tie as tie
 
-returns : tie.Need-returns
+returns : tie.Need-returns-then-a-b
 returns c = omega arith
 
-returns-2 : tie.Need-returns-2
+returns-2 : tie.Need-returns-else-a-b
 returns-2 c = omega arith
 
 pub lower_spec : {M : Type 1} → statement M

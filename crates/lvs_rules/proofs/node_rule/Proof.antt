@@ -11,16 +11,16 @@ returns c =
     let patterns = signers.before in
     let edges = patterns.before in
     let own = edges.before in
-    node_item _ _ _ _ _ refl own.before.before.own-rule.ensures own.before.root-rule.ensures own.lower.ensures
-    edges.destinations-rule.ensures
-    patterns.sweep.ensures
-    signers.sweep2.ensures
-    c.before.before.lower2.ensures
-    c.before.lower3.ensures
-    c.lower4.ensures
+    node_item _ _ _ _ _ refl own.own_rule.ensures own.root_rule.ensures own.lower-own.ensures
+    edges.destinations_rule-edges.ensures
+    patterns.sweep-patterns.ensures
+    signers.sweep-signers.ensures
+    c.lower.ensures
+    c.lower-2.ensures
+    c.lower-3.ensures
 
-pub node-rule-spec : {M : Type 1} → statement M
-node-rule-spec =
+pub node_rule_spec : {M : Type 1} → statement M
+node_rule_spec =
     tie.close
     (tie.spec
     (λ c κs. search rules)

@@ -5,40 +5,40 @@ use borrow.Author.Rules.{rules}
 use Rattle.lvs_rules.proofs.type_of.Statement.{statement}
 use Rattle.lvs_rules.proofs.type_of.Tie as tie
 
-returns : tie.Need-returns
+returns : tie.Need-returns-in-Argument
 unfolding type_of
-returns c = ap type_of (sym c.enum_told.given.1)
+returns c = ap type_of (sym c.in-Argument.is)
 
-returns-2 : tie.Need-returns-2
+returns-2 : tie.Need-returns-in-Call
 unfolding type_of
-returns-2 c = ap type_of (sym c.enum-told2.given.1)
+returns-2 c = ap type_of (sym c.in-Call.is)
 
-returns-3 : tie.Need-returns-3
+returns-3 : tie.Need-returns-in-Tag
 unfolding type_of
-returns-3 c = ap type_of (sym c.enum-told3.given.1)
+returns-3 c = ap type_of (sym c.in-Tag.is)
 
-returns-4 : tie.Need-returns-4
+returns-4 : tie.Need-returns-in-ConstraintOption
 unfolding type_of
-returns-4 c = ap type_of (sym c.enum-told4.given.1)
+returns-4 c = ap type_of (sym c.in-ConstraintOption.is)
 
-returns-5 : tie.Need-returns-5
+returns-5 : tie.Need-returns-in-Constraint
 unfolding type_of
-returns-5 c = ap type_of (sym c.enum-told5.given.1)
+returns-5 c = ap type_of (sym c.in-Constraint.is)
 
-returns-6 : tie.Need-returns-6
+returns-6 : tie.Need-returns-in-PatternEdge
 unfolding type_of
-returns-6 c = ap type_of (sym c.enum-told6.given.1)
+returns-6 c = ap type_of (sym c.in-PatternEdge.is)
 
-returns-7 : tie.Need-returns-7
+returns-7 : tie.Need-returns-in-Signer
 unfolding type_of
-returns-7 c = ap type_of (sym c.enum-told7.given.1)
+returns-7 c = ap type_of (sym c.in-Signer.is)
 
-returns-8 : tie.Need-returns-8
+returns-8 : tie.Need-returns-in-Symbol
 unfolding type_of
-returns-8 c = ap type_of (sym c.enum-told8.given.1)
+returns-8 c = ap type_of (sym c.in-Symbol.is)
 
-pub type-of-spec : {M : Type 1} → statement M
-type-of-spec =
+pub type_of_spec : {M : Type 1} → statement M
+type_of_spec =
     tie.close
     (tie.spec
     (λ c. search rules)

@@ -9,49 +9,49 @@ use Rattle.lvs_verdict.proofs.judge_inputs.Statement.{statement}
 use Rattle.lvs_verdict.proofs.judge_inputs.Tie as tie
 
 -- where the call began, the model was accepted, and the names were read
-abbrev start : tie.After-judge-model → tie.Start
+abbrev start : tie.After-judge_model → tie.Start
 start c = c.before.before.before.before
 
-accepted : (c : tie.After-enum-told) → verdict (start c.before.before).args.model.now ≡ Verdict.accepted c.enum_told.given.0.0
-accepted c = sym c.before.before.judge-model.ensures ∙ ap verdict_of c.enum_told.given.1
+accepted : (c : tie.In_default) → verdict (start c.before).args.model.now ≡ Verdict.accepted c.in_default.field-0
+accepted c = sym c.judge_model.ensures ∙ ap verdict_of c.in_default.is
 
-abbrev judged : tie.After-p → tie.After-enum-told
-judged c = c.before.before.before
+abbrev judged : tie.In-Good → tie.In_default
+judged c = c.before.before
 
-abbrev packet : tie.After-k → tie.After-p
-packet c = c.before.before.before.before
+abbrev packet : tie.In-Good-read_name → tie.In-Good
+packet c = c.before.before
 
-returns : tie.Need-returns
+returns : tie.Need-returns-in-Refused
 returns c =
-    let j = c.before.before.before in
+    let j = c.before in
     let a = (start j).args in
-    inputs_refused a.model.now a.packet.now a.key.now (sym j.judge-model.ensures ∙ ap verdict_of c.before.number.given.1)
+    inputs_refused a.model.now a.packet.now a.key.now (sym j.judge_model.ensures ∙ ap verdict_of c.in-Refused.is)
 
-returns-2 : tie.Need-returns-2
+returns-2 : tie.Need-returns-in-Refused-read_name
 returns-2 c =
-    let read = c.before.before.before in
+    let read = c.before in
     let e = read.before in
-    let a = (start e.before.before).args in
-    inputs_bad_packet a.model.now a.packet.now a.key.now (accepted e) (read_bad read.read_name.ensures c.before.number2.given.1)
+    let a = (start e.before).args in
+    inputs_bad_packet a.model.now a.packet.now a.key.now (accepted e) (read_bad read.read_name.ensures c.in-Refused-read_name.is)
 
-returns-3 : tie.Need-returns-3
+returns-3 : tie.Need-returns-in-Refused-read_name-2
 returns-3 c =
-    let read = c.before.before.before in
-    let p = read.before.before in
-    let a = (start (judged p).before.before).args in
+    let read = c.before in
+    let p = read.before in
+    let a = (start (judged p).before).args in
     inputs_bad_key a.model.now a.packet.now a.key.now (accepted (judged p)) _
-    (read_good p.before.before.read_name.ensures p.p.given.1) (read_bad read.read-name2.ensures c.before.number3.given.1)
+    (read_good p.read_name.ensures p.in-Good.is) (read_bad read.read_name-in-Good.ensures c.in-Refused-read_name-2.is)
 
-returns-4 : tie.Need-returns-4
+returns-4 : tie.Need-returns-in-Good-read_name
 returns-4 c =
-    let k = c.before in
+    let k = c in
     let p = packet k in
-    let a = (start (judged p).before.before).args in
-    inputs_good a.model.now a.packet.now a.key.now (accepted (judged p)) p.before.before.read_name.ensures p.p.given.1
-    k.before.before.read-name2.ensures k.k.given.1
+    let a = (start (judged p).before).args in
+    inputs_good a.model.now a.packet.now a.key.now (accepted (judged p)) p.read_name.ensures p.in-Good.is
+    k.read_name-in-Good.ensures k.in-Good-read_name.is
 
-pub judge-inputs-spec : {M : Type 1} → statement M
-judge-inputs-spec =
+pub judge_inputs_spec : {M : Type 1} → statement M
+judge_inputs_spec =
     tie.close
     (tie.spec
     (λ c κs. search rules)

@@ -8,46 +8,46 @@ use Rattle.lvs_verdict.proofs.judge_model.Statement.{statement}
 use Rattle.lvs_verdict.proofs.judge_model.Tie as tie
 
 -- where the model was read, and where the call began
-abbrev start : tie.After-check-grammar → tie.Start
+abbrev start : tie.After-check_grammar → tie.Start
 start c = c.before.before
 
-returns : tie.Need-returns
+returns : tie.Need-returns-in-TooLong
 returns c =
-    let read = c.before.before in
+    let read = c.before in
     let b = (start read).args.model.now in
-    sym (verdict_unreadable b (reading_is b read.check-grammar.ensures c.enum_told.given.1))
+    sym (verdict_unreadable b (reading_is b read.check_grammar.ensures c.in-TooLong.is))
 
-returns-2 : tie.Need-returns-2
+returns-2 : tie.Need-returns-in-Malformed
 returns-2 c =
-    let read = c.before.before.before in
+    let read = c.before in
     let b = (start read).args.model.now in
-    sym (verdict_unreadable b (reading_is b read.check-grammar.ensures c.before.place.given.1))
+    sym (verdict_unreadable b (reading_is b read.check_grammar.ensures c.in-Malformed.is))
 
-returns-3 : tie.Need-returns-3
+returns-3 : tie.Need-returns-in-OtherVersion
 returns-3 c =
-    let read = c.before.before in
+    let read = c.before in
     let b = (start read).args.model.now in
-    sym (verdict_unreadable b (reading_is b read.check-grammar.ensures c.enum-told2.given.1))
+    sym (verdict_unreadable b (reading_is b read.check_grammar.ensures c.in-OtherVersion.is))
 
 -- the rules decide
-returns-4 : tie.Need-returns-4
+returns-4 : tie.Need-returns-in-Accepted
 returns-4 c =
-    let told = c.before.before.before.before in
-    let read = told.before.before in
+    let told = c.before.before in
+    let read = told.before in
     let b = (start read).args.model.now in
-    verdict_judged b (reading_is b read.check-grammar.ensures told.enum-told3.given.1)
-    (sym (ap judged_of c.before.nodes.given.1) ∙ c.before.before.before.check-rules.ensures)
+    verdict_judged b (reading_is b read.check_grammar.ensures told.in-Readable.is)
+    (sym (ap judged_of c.in-Accepted.is) ∙ c.check_rules.ensures)
 
-returns-5 : tie.Need-returns-5
+returns-5 : tie.Need-returns-in-Refused
 returns-5 c =
-    let told = c.before.before.before.before in
-    let read = told.before.before in
+    let told = c.before.before in
+    let read = told.before in
     let b = (start read).args.model.now in
-    verdict_judged b (reading_is b read.check-grammar.ensures told.enum-told3.given.1)
-    (sym (ap judged_of c.before.rule.given.1) ∙ c.before.before.before.check-rules.ensures)
+    verdict_judged b (reading_is b read.check_grammar.ensures told.in-Readable.is)
+    (sym (ap judged_of c.in-Refused.is) ∙ c.check_rules.ensures)
 
-pub judge-model-spec : {M : Type 1} → statement M
-judge-model-spec =
+pub judge_model_spec : {M : Type 1} → statement M
+judge_model_spec =
     tie.close
     (tie.spec
     (λ c κs. search rules)

@@ -5,13 +5,13 @@ use Rattle.lvs_rules.specs.Lowest.{named_rule}
 use Rattle.lvs_rules.proofs.numbers.named_rule.Statement.{statement}
 use Rattle.lvs_rules.proofs.numbers.named_rule.Tie as tie
 
-returns : tie.Need-returns
+returns : tie.Need-returns-then-n-index
 unfolding named_rule
-returns c = reached c.before.args.rule c.before.args.n c.before.args.index (omega arith)
+returns c = reached c.args.rule c.args.n c.args.index (omega arith)
 
-returns-2 : tie.Need-returns-2
+returns-2 : tie.Need-returns-else-n-index
 unfolding named_rule
-returns-2 c = not_reached c.before.args.rule c.before.args.n c.before.args.index (omega arith)
+returns-2 c = not_reached c.args.rule c.args.n c.args.index (omega arith)
 
-pub named-rule-spec : {M : Type 1} → statement M
-named-rule-spec = tie.close (tie.spec returns returns-2)
+pub named_rule_spec : {M : Type 1} → statement M
+named_rule_spec = tie.close (tie.spec returns returns-2)

@@ -7,16 +7,16 @@ use Rattle.lvs_rules.proofs.Least.{equal, unequal}
 use Rattle.lvs_rules.proofs.numbers.own_rule.Statement.{statement}
 use Rattle.lvs_rules.proofs.numbers.own_rule.Tie as tie
 
-returns : tie.Need-returns
+returns : tie.Need-returns-then-id-i
 unfolding own_rule node_of
-returns c = equal 6 _ _ (sym c.before.number_in.ensures ∙ c.if1.true)
+returns c = equal 6 _ _ (sym c.number_in-id.ensures ∙ c.if-id-i.true)
 
-returns-2 : tie.Need-returns-2
+returns-2 : tie.Need-returns-else-id-i
 unfolding own_rule node_of
-returns-2 c = unequal 6 _ _ (λ e. c.if1.false (c.before.number_in.ensures ∙ e))
+returns-2 c = unequal 6 _ _ (λ e. c.if-id-i.false (c.number_in-id.ensures ∙ e))
 
-pub own-rule-spec : {M : Type 1} → statement M
-own-rule-spec =
+pub own_rule_spec : {M : Type 1} → statement M
+own_rule_spec =
     tie.close
     (tie.spec
     (λ c κs. search rules)

@@ -6,43 +6,43 @@ use borrow.Author.Rules.{rules}
 use Rattle.lvs_rules.proofs.options.arguments_rule.Statement.{statement}
 use Rattle.lvs_rules.proofs.options.arguments_rule.Tie as tie
 
-returns : tie.Need-returns
+returns : tie.Need-returns-in-Eq
 returns c =
-    let read = c.before.before.before in
-    let count = read.before.before in
-    bad_call_lem _ count.before.inside_of.ensures.is count.count_of.ensures read.Function-of.ensures c.before.enum_told.given.1
-    c.number-rule.ensures
-
-returns-2 : tie.Need-returns-2
-returns-2 c =
-    let read = c.before.before.before in
-    let count = read.before.before in
-    bad_call_lem _ count.before.inside_of.ensures.is count.count_of.ensures read.Function-of.ensures c.before.enum-told2.given.1
-    c.number-rule2.ensures
-
-returns-3 : tie.Need-returns-3
-returns-3 c =
-    let read = c.before.before.before in
-    let count = read.before.before in
-    bad_call_lem _ count.before.inside_of.ensures.is count.count_of.ensures read.Function-of.ensures c.before.enum-told3.given.1
-    c.number-rule3.ensures
-
-returns-4 : tie.Need-returns-4
-returns-4 c =
-    let read = c.before.before.before in
-    let count = read.before.before in
-    bad_call_lem _ count.before.inside_of.ensures.is count.count_of.ensures read.Function-of.ensures c.before.enum-told4.given.1
-    c.number-rule4.ensures
-
-returns-5 : tie.Need-returns-5
-unfolding broken
-returns-5 c =
     let read = c.before.before in
     let count = read.before.before in
-    bad_call_lem _ count.before.inside_of.ensures.is count.count_of.ensures read.Function-of.ensures c.enum-told5.given.1 refl
+    bad_call_lem _ count.inside_of-part.ensures.is count.count_of-n.ensures read.function_of.ensures c.in-Eq.is
+    c.number_rule.ensures
 
-pub arguments-rule-spec : {M : Type 1} → statement M
-arguments-rule-spec =
+returns-2 : tie.Need-returns-in-EqType
+returns-2 c =
+    let read = c.before.before in
+    let count = read.before.before in
+    bad_call_lem _ count.inside_of-part.ensures.is count.count_of-n.ensures read.function_of.ensures c.in-EqType.is
+    c.number_rule-in-EqType.ensures
+
+returns-3 : tie.Need-returns-in-IsValidId
+returns-3 c =
+    let read = c.before.before in
+    let count = read.before.before in
+    bad_call_lem _ count.inside_of-part.ensures.is count.count_of-n.ensures read.function_of.ensures c.in-IsValidId.is
+    c.number_rule-in-IsValidId.ensures
+
+returns-4 : tie.Need-returns-in-IsValidYear
+returns-4 c =
+    let read = c.before.before in
+    let count = read.before.before in
+    bad_call_lem _ count.inside_of-part.ensures.is count.count_of-n.ensures read.function_of.ensures c.in-IsValidYear.is
+    c.number_rule-in-IsValidYear.ensures
+
+returns-5 : tie.Need-returns-in-Unknown
+unfolding broken
+returns-5 c =
+    let read = c.before in
+    let count = read.before.before in
+    bad_call_lem _ count.inside_of-part.ensures.is count.count_of-n.ensures read.function_of.ensures c.in-Unknown.is refl
+
+pub arguments_rule_spec : {M : Type 1} → statement M
+arguments_rule_spec =
     tie.close
     (tie.spec
     (λ c κs. search rules)

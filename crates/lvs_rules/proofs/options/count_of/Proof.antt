@@ -11,50 +11,50 @@ use borrow.Author.Rules.{rules}
 use Rattle.lvs_rules.proofs.options.count_of.Statement.{statement}
 use Rattle.lvs_rules.proofs.options.count_of.Tie as tie
 
-abbrev invariant-loop : tie.invariant-loop
+abbrev invariant-loop : tie.invariant-loop-typ
 invariant-loop s wanted n₀ place₀ n place = Gathered counted (insides wanted) s place.at n
 
-abbrev decreases-loop : tie.decreases-loop
+abbrev decreases-loop : tie.decreases-loop-typ
 decreases-loop s wanted n₀ place₀ n place = length s - place.at
 
 -- at an element that was found
-module _ (c : tie.After-typ invariant-loop decreases-loop) where
-  step : SeenOf _ _ c.before.before.element.ensures c.typ.given.1
-  step = seen _ _ c.before.before.element.ensures c.typ.given.1
+module _ (c : tie.In-Found invariant-loop decreases-loop) where
+  step : SeenOf _ _ c.element.ensures c.in-Found.is
+  step = seen _ _ c.element.ensures c.in-Found.is
 
-loop-holds : tie.Need-loop-init invariant-loop decreases-loop
+loop-holds : tie.Need-loop-typ-init invariant-loop decreases-loop
 loop-holds c = started
 
-add-n : tie.Need-overflow-add-n invariant-loop decreases-loop
+add-n : tie.Need-overflow_add-n invariant-loop decreases-loop
 add-n c =
-    let turn = c.before.before in
-    omega (arith, inside_room turn.before.before.before.loop.invariant (step turn) c.if1.true)
+    let turn = c.before in
+    omega (arith, inside_room turn.loop-typ.invariant (step turn) c.if-typ-wanted.true)
 
-loop-less : tie.Need-loop-smaller invariant-loop decreases-loop
-loop-less c = omega (arith, step c.before.before)
+loop-less : tie.Need-loop-typ-smaller-then-typ-wanted invariant-loop decreases-loop
+loop-less c = omega (arith, step c.before)
 
-loop-again : tie.Need-loop-preserved invariant-loop decreases-loop
+loop-again : tie.Need-loop-typ-preserved-then-typ-wanted invariant-loop decreases-loop
 loop-again c =
-    let turn = c.before.before in
-    took turn.before.before.before.loop.invariant (insides_found _ (step turn) c.if1.true) refl
+    let turn = c.before in
+    took turn.loop-typ.invariant (insides_found _ (step turn) c.if-typ-wanted.true) refl
 
-loop-less-2 : tie.Need-loop-smaller-2 invariant-loop decreases-loop
-loop-less-2 c = omega (arith, step c.before.before)
+loop-less-2 : tie.Need-loop-typ-smaller invariant-loop decreases-loop
+loop-less-2 c = omega (arith, step c.before)
 
-loop-again-2 : tie.Need-loop-preserved-2 invariant-loop decreases-loop
+loop-again-2 : tie.Need-loop-typ-preserved invariant-loop decreases-loop
 loop-again-2 c =
-    let turn = c.before.before in
-    passed turn.before.before.before.loop.invariant (insides_other _ (step turn) c.if1.false)
+    let turn = c.before in
+    passed turn.loop-typ.invariant (insides_other _ (step turn) c.if-typ-wanted.false)
 
-returns : tie.Need-returns invariant-loop decreases-loop
-returns c = ended c.before.before.before.loop.invariant (insides_stop _ (stop_end _ _ c.before.before.element.ensures c.enum_told.given.1))
+returns : tie.Need-returns-in-End invariant-loop decreases-loop
+returns c = ended c.loop-typ.invariant (insides_stop _ (stop_end _ _ c.element.ensures c.in-End.is))
 
-returns-2 : tie.Need-returns-2 invariant-loop decreases-loop
+returns-2 : tie.Need-returns-in-Malformed invariant-loop decreases-loop
 returns-2 c =
-    ended c.before.before.before.loop.invariant (insides_stop _ (stop_malformed _ _ c.before.before.element.ensures c.enum-told2.given.1))
+    ended c.loop-typ.invariant (insides_stop _ (stop_malformed _ _ c.element.ensures c.in-Malformed.is))
 
-pub count-of-spec : {M : Type 1} → statement M
-count-of-spec =
+pub count_of_spec : {M : Type 1} → statement M
+count_of_spec =
     tie.close
     (tie.spec
     invariant-loop

@@ -6,16 +6,16 @@ use borrow.Author.Rules.{rules}
 use Rattle.lvs_rules.proofs.options.terms_rule.Statement.{statement}
 use Rattle.lvs_rules.proofs.options.terms_rule.Tie as tie
 
-returns : tie.Need-returns
+returns : tie.Need-returns-then-n-eq1
 unfolding terms_rule
-returns c = equal 10 _ _ (sym c.before.term-count.ensures ∙ c.if1.true)
+returns c = equal 10 _ _ (sym c.term_count-n.ensures ∙ c.if-n-eq1.true)
 
-returns-2 : tie.Need-returns-2
+returns-2 : tie.Need-returns-else-n-eq1
 unfolding terms_rule
-returns-2 c = unequal 10 _ _ (λ e. c.if1.false (c.before.term-count.ensures ∙ e))
+returns-2 c = unequal 10 _ _ (λ e. c.if-n-eq1.false (c.term_count-n.ensures ∙ e))
 
-pub terms-rule-spec : {M : Type 1} → statement M
-terms-rule-spec =
+pub terms_rule_spec : {M : Type 1} → statement M
+terms_rule_spec =
     tie.close
     (tie.spec
     (λ c κs. search rules)

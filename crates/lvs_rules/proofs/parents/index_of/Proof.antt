@@ -5,13 +5,13 @@ use Rattle.lvs_rules.specs.Lowest.{parent_from}
 use Rattle.lvs_rules.proofs.parents.index_of.Statement.{statement}
 use Rattle.lvs_rules.proofs.parents.index_of.Tie as tie
 
-returns : tie.Need-returns
+returns : tie.Need-returns-then-p
 unfolding parent_from
-returns c = simp (lt-ltb _ _ c.if1.true)
+returns c = simp (lt-ltb _ _ c.if-p.true)
 
-returns-2 : tie.Need-returns-2
+returns-2 : tie.Need-returns-else-p
 unfolding parent_from
-returns-2 c = simp (le-ltb _ _ c.if1.false)
+returns-2 c = simp (le-ltb _ _ c.if-p.false)
 
-pub index-of-spec : {M : Type 1} → statement M
-index-of-spec = tie.close (tie.spec (λ c. search rules) returns returns-2)
+pub index_of_spec : {M : Type 1} → statement M
+index_of_spec = tie.close (tie.spec (λ c. search rules) returns returns-2)

@@ -12,52 +12,52 @@ use borrow.Author.Rules.{rules}
 use Rattle.lvs_rules.proofs.parents.parent_of.Statement.{statement}
 use Rattle.lvs_rules.proofs.parents.parent_of.Tie as tie
 
-abbrev invariant-loop : tie.invariant-loop
+abbrev invariant-loop : tie.invariant-loop-typ
 invariant-loop node place₀ place = Gathered listed (integers type.Parent) node place.at []
 
-abbrev decreases-loop : tie.decreases-loop
+abbrev decreases-loop : tie.decreases-loop-typ
 decreases-loop node place₀ place = length node - place.at
 
 -- at an element that was found
-module _ (c : tie.After-typ invariant-loop decreases-loop) where
-  step : SeenOf _ _ c.before.before.element.ensures c.typ.given.1
-  step = seen _ _ c.before.before.element.ensures c.typ.given.1
+module _ (c : tie.In-Found invariant-loop decreases-loop) where
+  step : SeenOf _ _ c.element.ensures c.in-Found.is
+  step = seen _ _ c.element.ensures c.in-Found.is
 
-loop-holds : tie.Need-loop-init invariant-loop decreases-loop
+loop-holds : tie.Need-loop-typ-init invariant-loop decreases-loop
 unfolding integers
 loop-holds c = started
 
-sub-number-of : tie.Need-overflow-sub-number-of invariant-loop decreases-loop
-sub-number-of c = omega (arith, step c.before.before)
+sub-number-of : tie.Need-slice_bounds-number_of-count invariant-loop decreases-loop
+sub-number-of c = omega (arith, step c.before)
 
-part-number-of-start : tie.Need-slice-bounds-number-of-start invariant-loop decreases-loop
-part-number-of-start c = omega (arith, step c.before.before)
+part-number-of-start : tie.Need-slice_bounds-number_of-start invariant-loop decreases-loop
+part-number-of-start c = omega (arith, step c.before)
 
-part-number-of-end : tie.Need-slice-bounds-number-of-end invariant-loop decreases-loop
-part-number-of-end c = omega (arith, step c.before.before)
+part-number-of-end : tie.Need-slice_bounds-number_of-end invariant-loop decreases-loop
+part-number-of-end c = omega (arith, step c.before)
 
-returns : tie.Need-returns invariant-loop decreases-loop
+returns : tie.Need-returns-then-typ-eq-PARENT invariant-loop decreases-loop
 returns c =
     let parent = c.before.before.before in
-    let turn = parent.before.before in
-    parent_first turn.before.before.before.loop.invariant (step turn) parent.if1.true c.before.number_of_lem.ensures c.index_of.ensures
+    let turn = parent.before in
+    parent_first turn.loop-typ.invariant (step turn) parent.if-typ-eq-PARENT.true c.number_of.ensures c.index_of.ensures
 
-loop-less : tie.Need-loop-smaller invariant-loop decreases-loop
-loop-less c = omega (arith, step c.before.before)
+loop-less : tie.Need-loop-typ-smaller invariant-loop decreases-loop
+loop-less c = omega (arith, step c.before)
 
-loop-again : tie.Need-loop-preserved invariant-loop decreases-loop
+loop-again : tie.Need-loop-typ-preserved invariant-loop decreases-loop
 loop-again c =
-    let turn = c.before.before in
-    no_parent_lem turn.before.before.before.loop.invariant (step turn) c.if1.false
+    let turn = c.before in
+    no_parent_lem turn.loop-typ.invariant (step turn) c.if-typ-eq-PARENT.false
 
-returns-2 : tie.Need-returns-2 invariant-loop decreases-loop
-returns-2 c = parent_none c.before.before.before.loop.invariant (stop_end _ _ c.before.before.element.ensures c.enum_told.given.1)
+returns-2 : tie.Need-returns-in-End invariant-loop decreases-loop
+returns-2 c = parent_none c.loop-typ.invariant (stop_end _ _ c.element.ensures c.in-End.is)
 
-returns-3 : tie.Need-returns-3 invariant-loop decreases-loop
-returns-3 c = parent_none c.before.before.before.loop.invariant (stop_malformed _ _ c.before.before.element.ensures c.enum-told2.given.1)
+returns-3 : tie.Need-returns-in-Malformed invariant-loop decreases-loop
+returns-3 c = parent_none c.loop-typ.invariant (stop_malformed _ _ c.element.ensures c.in-Malformed.is)
 
-pub parent-of-spec : {M : Type 1} → statement M
-parent-of-spec =
+pub parent_of_spec : {M : Type 1} → statement M
+parent_of_spec =
     tie.close
     (tie.spec
     invariant-loop
