@@ -135,6 +135,12 @@ abbrev share : List ℕ → Element → ℕ
 share [] e = 0
 share (t ∷ ts) e = cond (eqb t e.type) (length (element_bytes e)) 0 + share ts e
 
+one_added : (a h s f : ℕ) {w b : ℕ} → a ≡ b → w ≡ s + f → a + h + w ≡ b + s + (h + f)
+one_added a h s f d e = omega (arith, d, e)
+
+of_type : {t : ℕ} (e : Element) → t ≡ e.type → length (element_bytes (record { type = t; inside = e.inside })) ≡ length (element_bytes e)
+of_type e h = ap (λ k. length (element_bytes (record { type = k; inside = e.inside }))) h
+
 weight_next : (ts : List ℕ) (e : Element) (es : List Element) → weight ts (found (e ∷ es)) ≡ share ts e + weight ts (found es)
 unfolding inside_of
 weight_next [] e es = refl
@@ -142,7 +148,8 @@ weight_next (t ∷ ts) e es = go (eqb t e.type) refl (weight_next ts e es)
   where
     go : (a : Bool) → eqb t e.type ≡ a → weight ts (found (e ∷ es)) ≡ share ts e + weight ts (found es)
         → weight (t ∷ ts) (found (e ∷ es)) ≡ share (t ∷ ts) e + weight (t ∷ ts) (found es)
-    go true p rec = rw (p, eqb-true t e.type p) (omega arith)
+    go true p rec =
+        rw p (one_added _ (heavy t (each (inside_of t) es)) (share ts e) (weight ts (found es)) (of_type e (eqb-true t e.type p)) rec)
     go false p rec = rw p (omega arith)
 
 share_none : (ts : List ℕ) (e : Element) → member e.type ts ≡ false → share ts e ≡ 0

@@ -5,17 +5,17 @@ use Rattle.lvs_edges.proofs.Plain.{plain_destination}
 use Rattle.lvs_edges.proofs.destination.Statement.{statement}
 use Rattle.lvs_edges.proofs.destination.Tie as tie
 
-shared-slice-read-result : tie.Need-shared-slice-read-result
-shared-slice-read-result c = omega (arith, (c.before.before.plain-node.ensures c.before.if1.true).long)
+shared-slice-read-result : tie.Need-bounds-s-2
+shared-slice-read-result c = omega (arith, (c.plain_node.ensures c.if-plain_node.true).long)
 
-cast-result : tie.Need-overflow-cast-result
-cast-result c = omega (arith, c.shared-slice-known2.given 2)
+cast-result : tie.Need-overflow_cast-result
+cast-result c = omega (arith, c.shared_slice_known-then-plain_node-1.given 2)
 
-returns : tie.Need-returns
-returns c = plain_destination (c.before.before.plain-node.ensures c.before.if1.true)
+returns : tie.Need-returns-then-plain_node
+returns c = plain_destination (c.plain_node.ensures c.if-plain_node.true)
 
-pub destination-spec : {M : Type 1} → statement M
-destination-spec =
+pub destination_spec : {M : Type 1} → statement M
+destination_spec =
     tie.close
     (tie.spec
     (λ c κs. search rules)

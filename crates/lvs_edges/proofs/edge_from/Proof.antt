@@ -9,42 +9,42 @@ use Rattle.lvs_edges.proofs.Edges.{Skipped, none_skipped, edge_value, edge_patte
 use Rattle.lvs_edges.proofs.edge_from.Statement.{statement}
 use Rattle.lvs_edges.proofs.edge_from.Tie as tie
 
-abbrev Inv : tie.invariant-loop
+abbrev Inv : tie.invariant-loop-typ
 Inv s at place₀ place = Skipped s at place.at
 
-abbrev μ : tie.decreases-loop
+abbrev μ : tie.decreases-loop-typ
 μ s at place₀ place = length s - place.at
 
 -- the element that was found, and the turn that found it
-step : (c : tie.After-typ Inv μ) → SeenOf _ _ c.before.before.element.ensures c.typ.given.1
-step c = seen _ _ c.before.before.element.ensures c.typ.given.1
+step : (c : tie.In-Found Inv μ) → SeenOf _ _ c.element.ensures c.in-Found.is
+step c = seen _ _ c.element.ensures c.in-Found.is
 
-abbrev turn : tie.After-typ Inv μ → tie.At-loop Inv μ
-turn c = c.before.before.before
+abbrev turn : tie.In-Found Inv μ → tie.At-loop-typ Inv μ
+turn c = c.before.before
 
-loop-holds : tie.Need-loop-init Inv μ
+loop-holds : tie.Need-loop-typ-init Inv μ
 loop-holds c = none_skipped _ _
 
-returns : tie.Need-returns Inv μ
-returns c = let d = c.before.before in edge_value (turn d).loop.invariant (step d) c.if1.true
+returns : tie.Need-returns-then-typ-eq-VALUE_EDGE Inv μ
+returns c = edge_value (turn c.before).loop-typ.invariant (step c.before) c.if-typ-eq-VALUE_EDGE.true
 
-returns-2 : tie.Need-returns-2 Inv μ
-returns-2 c = let d = c.before.before.before in edge_pattern (turn d).loop.invariant (step d) c.if2.true
+returns-2 : tie.Need-returns-then-typ-eq-PATTERN_EDGE Inv μ
+returns-2 c = edge_pattern (turn c.before.before).loop-typ.invariant (step c.before.before) c.if-typ-eq-PATTERN_EDGE.true
 
-loop-less : tie.Need-loop-smaller Inv μ
-loop-less c = let st = step c.before.before.before in omega arith
+loop-less : tie.Need-loop-typ-smaller Inv μ
+loop-less c = let st = step c.before.before in omega arith
 
-loop-again : tie.Need-loop-preserved Inv μ
-loop-again c = let d = c.before.before.before in edge_later (turn d).loop.invariant (step d) c.before.if1.false c.if2.false
+loop-again : tie.Need-loop-typ-preserved Inv μ
+loop-again c = edge_later (turn c.before.before).loop-typ.invariant (step c.before.before) c.if-typ-eq-VALUE_EDGE.false c.if-typ-eq-PATTERN_EDGE.false
 
-returns-3 : tie.Need-returns-3 Inv μ
-returns-3 c = edge_none c.before.before.before.loop.invariant (stop_end _ _ c.before.before.element.ensures c.enum_told.given.1)
+returns-3 : tie.Need-returns-in-End Inv μ
+returns-3 c = edge_none c.loop-typ.invariant (stop_end _ _ c.element.ensures c.in-End.is)
 
-returns-4 : tie.Need-returns-4 Inv μ
-returns-4 c = edge_none c.before.before.before.loop.invariant (stop_malformed _ _ c.before.before.element.ensures c.enum-told2.given.1)
+returns-4 : tie.Need-returns-in-Malformed Inv μ
+returns-4 c = edge_none c.loop-typ.invariant (stop_malformed _ _ c.element.ensures c.in-Malformed.is)
 
-pub edge-from-spec : {M : Type 1} → statement M
-edge-from-spec =
+pub edge_from_spec : {M : Type 1} → statement M
+edge_from_spec =
     tie.close
     (tie.spec
     Inv

@@ -6,31 +6,29 @@ use Rattle.lvs_edges.proofs.Plain.{never}
 use Rattle.lvs_edges.proofs.plain_pattern.Statement.{statement}
 use Rattle.lvs_edges.proofs.plain_pattern.Tie as tie
 
-cast-if3 : tie.Need-overflow-cast-if3
-cast-if3 c = omega (arith, c.shared-slice-known2.given 3)
+cast-if3 : tie.Need-overflow_cast-s
+cast-if3 c = omega (arith, c.shared_slice_known-2-1.given 3)
 
-returns : tie.Need-returns
+returns : tie.Need-returns-then-s-lt6
 returns c = never
 
-returns-2 : tie.Need-returns-2
+returns-2 : tie.Need-returns-then-not-plain_node
 returns-2 c = never
 
-returns-3 : tie.Need-returns-3
+returns-3 : tie.Need-returns-then-s-ne-TAG
 returns-3 c = never
 
-returns-4 : tie.Need-returns-4
+returns-4 : tie.Need-returns
 returns-4 c =
-    let three = c.before in
-    let two = three.before.before in
     λ e. record {
-      begins = two.before.plain-node.ensures (not-false _ two.if2.false);
-      long = two.before.before.if1.false;
-      tag = three.if3.false;
+      begins = c.plain_node.ensures c.if-not-plain_node.false;
+      long = c.if-s-lt6.false;
+      tag = c.if-s-ne-TAG.false;
       tag_size = eqb-true _ _ e;
     }
 
-pub plain-pattern-spec : {M : Type 1} → statement M
-plain-pattern-spec =
+pub plain_pattern_spec : {M : Type 1} → statement M
+plain_pattern_spec =
     tie.close
     (tie.spec
     returns

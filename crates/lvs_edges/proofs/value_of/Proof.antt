@@ -5,17 +5,17 @@ use Rattle.lvs_edges.proofs.Plain.{plain_inside}
 use Rattle.lvs_edges.proofs.value_of.Statement.{statement}
 use Rattle.lvs_edges.proofs.value_of.Tie as tie
 
-sub-result : tie.Need-overflow-sub-result
-sub-result c = omega (arith, (c.before.plain_value.ensures c.if1.true).long)
+sub-result : tie.Need-slice_bounds-result-count
+sub-result c = omega (arith, (c.plain_value.ensures c.if-plain_value.true).long)
 
-part-result-start : tie.Need-slice-bounds-result-start
-part-result-start c = omega (arith, (c.before.plain_value.ensures c.if1.true).long)
+part-result-start : tie.Need-slice_bounds-result-start
+part-result-start c = omega (arith, (c.plain_value.ensures c.if-plain_value.true).long)
 
-returns : tie.Need-returns
-returns c = plain_inside (c.before.before.plain_value.ensures c.before.if1.true)
+returns : tie.Need-returns-then-plain_value
+returns c = plain_inside (c.plain_value.ensures c.if-plain_value.true)
 
-pub value-of-spec : {M : Type 1} → statement M
-value-of-spec =
+pub value_of_spec : {M : Type 1} → statement M
+value_of_spec =
     tie.close
     (tie.spec
     (λ c κs. search rules)

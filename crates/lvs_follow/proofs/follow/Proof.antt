@@ -9,55 +9,49 @@ use Rattle.lvs_follow.proofs.follow.Statement.{statement}
 use Rattle.lvs_follow.proofs.follow.Tie as tie
 
 -- where the call began, and what the inputs are
-abbrev start : tie.After-judge-inputs → tie.Start
+abbrev start : tie.After-judge_inputs → tie.Start
 start c = c.before.before.before.before.before
 
-abbrev began : tie.After-p → tie.Start
-began c = start c.before.before
+abbrev began : tie.In-Good → tie.Start
+began c = start c.before
 
-good : (c : tie.After-p)
-    → let a = (began c).args in GoodInputs a.model.now a.packet.now a.key.now c.p.given.0.0 c.p.given.0.1.0
+good : (c : tie.In-Good)
+    → let a = (began c).args in GoodInputs a.model.now a.packet.now a.key.now c.in-Good.p c.in-Good.k
 good c =
     let a = (began c).args in
-    subst (InputsOf a.model.now a.packet.now a.key.now) c.p.given.1 c.before.before.judge-inputs.ensures
+    subst (InputsOf a.model.now a.packet.now a.key.now) c.in-Good.is c.judge_inputs.ensures
 
-returns-3 : tie.Need-returns-3
+returns-3 : tie.Need-returns-in-Refused
 returns-3 c =
-    let j = c.before.before.before in
-    let a = (start j).args in
+    let a = (start c.before).args in
     sym (follow_refused a.model.now a.packet.now a.key.now a.path.now
-    (subst (InputsOf a.model.now a.packet.now a.key.now) c.before.number.given.1 j.judge-inputs.ensures))
+    (subst (InputsOf a.model.now a.packet.now a.key.now) c.in-Refused.is c.judge_inputs.ensures))
 
-add-if1 : tie.Need-overflow-add-if1
-add-if1 c = let g = good c.before.before.before in omega (arith, g.packet_row.few, g.key_row.few)
+add-if1 : tie.Need-overflow_add-p
+add-if1 c = let g = good c.before.before in omega (arith, g.packet_row.few, g.key_row.few)
 
-returns : tie.Need-returns
+returns : tie.Need-returns-then-path-p
 returns c =
-    let p = c.before.before.before.before in
-    let a = (began p).args in
-    sym (follow_length a.model.now a.packet.now a.key.now a.path.now (good p) c.if1.true)
+    let a = (began c.before.before.before).args in
+    sym (follow_length a.model.now a.packet.now a.key.now a.path.now (good c.before.before.before) c.if-path-p.true)
 
-follow-pair-requires : tie.Need-follow-pair-requires
-follow-pair-requires c κs = (good c.before.before.before.before, c.if1.false)
+follow-pair-requires : tie.Need-follow_pair-requires
+follow-pair-requires c κs = (good c.before.before.before, c.if-path-p.false)
 
-returns-2 : tie.Need-returns-2
+returns-2 : tie.Need-returns-then-follow_pair
 unfolding followed
 returns-2 c =
-    let f = c.before in
-    let p = f.before.before.before.before.before in
-    let a = (began p).args in
-    sym (follow_decided a.model.now a.packet.now a.key.now a.path.now (good p) f.follow-pair.ensures ∙ ap followed c.if2.true)
+    let a = (began c.before.before.before.before.before).args in
+    sym (follow_decided a.model.now a.packet.now a.key.now a.path.now (good c.before.before.before.before.before) c.follow_pair.ensures ∙ ap followed c.if-follow_pair.true)
 
-returns-4 : tie.Need-returns-4
+returns-4 : tie.Need-returns-else-follow_pair
 unfolding followed
 returns-4 c =
-    let f = c.before in
-    let p = f.before.before.before.before.before in
-    let a = (began p).args in
-    sym (follow_decided a.model.now a.packet.now a.key.now a.path.now (good p) f.follow-pair.ensures ∙ ap followed c.if2.false)
+    let a = (began c.before.before.before.before.before).args in
+    sym (follow_decided a.model.now a.packet.now a.key.now a.path.now (good c.before.before.before.before.before) c.follow_pair.ensures ∙ ap followed c.if-follow_pair.false)
 
-pub follow-spec : {M : Type 1} → statement M
-follow-spec =
+pub follow_spec : {M : Type 1} → statement M
+follow_spec =
     tie.close
     (tie.spec
     (λ c κs. search rules)

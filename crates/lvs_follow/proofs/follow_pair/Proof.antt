@@ -9,64 +9,53 @@ use Rattle.lvs_follow.proofs.follow_pair.Statement.{statement}
 use Rattle.lvs_follow.proofs.follow_pair.Tie as tie
 
 -- where the function began, and what the packet's words led to
-abbrev start : tie.After-node-places → tie.Start
+abbrev start : tie.After-node_places → tie.Start
 start c = c.before.before.before.before.before.before
 
-abbrev searched : tie.After-follow-name → tie.After-node-places
-searched c = c.before.before.before.before
+abbrev searched : tie.After-follow_name → tie.After-node_places
+searched c = c.before.before.before
 
-abbrev began : tie.After-follow-name → tie.Start
+abbrev began : tie.After-follow_name → tie.Start
 began c = start (searched c)
 
-node-places-requires : tie.Need-node-places-requires
+node-places-requires : tie.Need-node_places-requires
 node-places-requires c κs =
-    let s = c.before.before.before.before.before in
-    (walkable s.args.model.now s.requires.0.accepted, refl)
+    (walkable c.args.model.now c.requires.0.accepted, refl)
 
-slice-aggregate-follow-name : tie.Need-slice-aggregate-follow-name
+slice-aggregate-follow-name : tie.Need-slice_bounds-follow_name-end
 slice-aggregate-follow-name c =
-    let s = start c.before.before in
-    front_count s.args.path.now s.args.p.count s.args.k.count s.pre.1
+    let s = start c.before in
+    front_count s.args.path.now s.args.p.count s.args.k.count s.requires.1
 
-follow-name-requires : tie.Need-follow-name-requires
-follow-name-requires c κs = let n = c.before.before.before in within_first (start n).requires.0 n.node-places.ensures refl
+follow-name-requires : tie.Need-follow_name-requires
+follow-name-requires c κs = within_first (start c.before.before).requires.0 c.node_places.ensures refl
 
 -- the packet's words lead nowhere
-returns : tie.Need-returns
+returns : tie.Need-returns-in_default
 returns c =
-    let f = c.before.before in
-    let a = (began f).args in
-    packet_nowhere (model_of a.model.now) a.packet.now a.key.now a.path.now a.p a.k (began f).requires.0.packet_row.count refl
-    f.follow-name.ensures c.enum_told.given.1
+    let a = (began c.before).args in
+    packet_nowhere (model_of a.model.now) a.packet.now a.key.now a.path.now a.p a.k (began c.before).requires.0.packet_row.count refl
+    c.follow_name.ensures c.in_default.is
 
-follow-name-requires-2 : tie.Need-follow-name-requires-2
+follow-name-requires-2 : tie.Need-follow_name-requires-2
 follow-name-requires-2 c κs =
-    let v = c.before.before.before.before in
-    let f = v.before.before in
-    within_second (began f).requires.0 (searched f).node-places.ensures f.follow-name.ensures
+    within_second (began c.before.before.before.before).requires.0 (searched c.before.before.before.before).node_places.ensures c.follow_name.ensures
 
 -- the key's words lead nowhere
-returns-2 : tie.Need-returns-2
+returns-2 : tie.Need-returns-in_default-follow_name
 returns-2 c =
-    let g = c.before.before in
-    let v = g.before.before.before.before.before in
-    let f = v.before.before in
-    let a = (began f).args in
-    key_nowhere (model_of a.model.now) a.packet.now a.key.now a.path.now a.p a.k (began f).requires.0.packet_row.count refl
-    f.follow-name.ensures v.v.given.1 (to_end a.path.now a.p.count) g.follow-name2.ensures c.enum-told2.given.1
+    let a = (began c.before.before.before.before.before.before).args in
+    key_nowhere (model_of a.model.now) a.packet.now a.key.now a.path.now a.p a.k (began c.before.before.before.before.before.before).requires.0.packet_row.count refl
+    c.follow_name.ensures c.in-At.is (to_end a.path.now a.p.count) c.follow_name-2.ensures c.in_default-follow_name.is
 
-returns-3 : tie.Need-returns-3
+returns-3 : tie.Need-returns
 returns-3 c =
-    let e = c.before.before.before in
-    let g = e.before.before in
-    let v = g.before.before.before.before.before in
-    let f = v.before.before in
-    let a = (began f).args in
-    arrives (model_of a.model.now) a.packet.now a.key.now a.path.now a.p a.k (began f).requires.0.packet_row.count refl
-    f.follow-name.ensures v.v.given.1 (to_end a.path.now a.p.count) g.follow-name2.ensures e.s.given.1 c.lists-node.ensures
+    let a = (began c.before.before.before.before.before.before.before.before).args in
+    arrives (model_of a.model.now) a.packet.now a.key.now a.path.now a.p a.k (began c.before.before.before.before.before.before.before.before).requires.0.packet_row.count refl
+    c.follow_name.ensures c.in-At.is (to_end a.path.now a.p.count) c.follow_name-2.ensures c.in-At-follow_name.is c.lists_node.ensures
 
-pub follow-pair-spec : {M : Type 1} → statement M
-follow-pair-spec =
+pub follow_pair_spec : {M : Type 1} → statement M
+follow_pair_spec =
     tie.close
     (tie.spec
     node-places-requires

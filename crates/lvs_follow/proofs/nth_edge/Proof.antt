@@ -8,40 +8,37 @@ use Rattle.lvs_follow.proofs.Nth.{Counting, count_none, edge_at, count_here, cou
 use Rattle.lvs_follow.proofs.nth_edge.Statement.{statement}
 use Rattle.lvs_follow.proofs.nth_edge.Tie as tie
 
-abbrev Inv : tie.invariant-loop
+abbrev Inv : tie.invariant-loop-pattern
 Inv s ordinal from₀ left₀ from left = Counting s ordinal from left
 
-abbrev μ : tie.decreases-loop
+abbrev μ : tie.decreases-loop-pattern
 μ s ordinal from₀ left₀ from left = length s - from
 
-loop-holds : tie.Need-loop-init Inv μ
+loop-holds : tie.Need-loop-pattern-init Inv μ
 loop-holds c = record { is = refl }
 
-returns : tie.Need-returns Inv μ
-returns c = count_none c.before.before.before.loop.invariant c.before.before.edge-from.ensures c.enum_told.given.1
+returns : tie.Need-returns-in_default Inv μ
+returns c = count_none c.loop-pattern.invariant c.edge_from.ensures c.in_default.is
 
 -- the edge that was read, and the turn that read it
-abbrev turn : tie.After-pattern Inv μ → tie.At-loop Inv μ
-turn c = c.before.before.before
+abbrev turn : tie.In-Edge Inv μ → tie.At-loop-pattern Inv μ
+turn c = c.before.before
 
-returns-2 : tie.Need-returns-2 Inv μ
+returns-2 : tie.Need-returns-then-left-eq0 Inv μ
 returns-2 c =
-    let e = c.before.before in
-    count_here (turn e).loop.invariant e.before.before.edge-from.ensures e.pattern.given.1 c.if1.true
+    count_here (turn c.before).loop-pattern.invariant c.edge_from.ensures c.in-Edge.is c.if-left-eq0.true
 
-loop-less : tie.Need-loop-smaller Inv μ
+loop-less : tie.Need-loop-pattern-smaller Inv μ
 loop-less c =
-    let e = c.before.before in
-    let at = edge_at (turn e).loop.invariant e.before.before.edge-from.ensures e.pattern.given.1 in
+    let at = edge_at (turn c.before).loop-pattern.invariant c.edge_from.ensures c.in-Edge.is in
     omega (arith, at.moved, at.after)
 
-loop-again : tie.Need-loop-preserved Inv μ
+loop-again : tie.Need-loop-pattern-preserved Inv μ
 loop-again c =
-    let e = c.before.before in
-    count_next (turn e).loop.invariant e.before.before.edge-from.ensures e.pattern.given.1 c.if1.false
+    count_next (turn c.before).loop-pattern.invariant c.edge_from.ensures c.in-Edge.is c.if-left-eq0.false
 
-pub nth-edge-spec : {M : Type 1} → statement M
-nth-edge-spec =
+pub nth_edge_spec : {M : Type 1} → statement M
+nth_edge_spec =
     tie.close
     (tie.spec
     Inv

@@ -22,11 +22,11 @@ use Rattle.lvs_follow.proofs.step.Statement.{statement}
 use Rattle.lvs_follow.proofs.step.Tie as tie
 
 -- where the function began, and the part of the model that has the Node's edges
-abbrev start : tie.After-node-part → tie.Start
+abbrev start : tie.After-node_part-part → tie.Start
 start c = c.before.before.before.before.before
 
-body : (c : tie.After-node-part) → BodyPart (start c).args.model.now (start c).args.node c.node_part.result
-body c = body_of_part (start c).requires.0 c.node_part.ensures
+body : (c : tie.After-node_part-part) → BodyPart (start c).args.model.now (start c).args.node c.node_part-part.result
+body c = body_of_part (start c).requires.0 c.node_part-part.ensures
 
 abbrev bindings : tie.Start → Bindings
 bindings s = bindings_of s.args.packet.now s.args.key.now s.args.slots.now
@@ -35,51 +35,49 @@ only_named : (s : tie.Start) → OnlyNamed (model_of s.args.model.now).pattern_c
 only_named s = subst (λ n. OnlyNamed n (bindings s)) s.requires.1.0 s.requires.1.1.only_named
 
 -- the edge that was found
-abbrev node : tie.After-pattern → tie.After-node-part
-node c = c.before.before.before.before
+abbrev node : tie.In-Edge → tie.After-node_part-part
+node c = c.before.before.before
 
-nth : (c : tie.After-pattern)
-    → let p = (node c).node_part.result in
+nth : (c : tie.In-Edge)
+    → let p = (node c).node_part-part.result in
     let s = start (node c) in
-    let (kind, (from, (stop, _))) = c.pattern.given.0 in
+    let (kind, (from, (stop, _))) = c.pattern-1.given.0 in
     Nth (take (p.end - p.start) (drop p.start s.args.model.now)) s.args.ordinal kind from stop
-nth c = subst (EdgeNth _ (start (node c)).args.ordinal) c.pattern.given.1 c.before.before.nth-edge.ensures
+nth c = subst (EdgeNth _ (start (node c)).args.ordinal) c.in-Edge.is c.nth_edge.ensures
 
-sub-edges : tie.Need-overflow-sub-edges
+sub-edges : tie.Need-slice_bounds-edges-count
 sub-edges c = (body c).order
 
-part-edges-start : tie.Need-slice-bounds-edges-start
+part-edges-start : tie.Need-slice_bounds-edges-start
 part-edges-start c = (body c).order
 
-part-edges-end : tie.Need-slice-bounds-edges-end
+part-edges-end : tie.Need-slice_bounds-edges-end
 part-edges-end c = (body c).within
 
-returns : tie.Need-returns
+returns : tie.Need-returns-in_default
 returns c =
-    let n = c.before.before in
-    let p = n.before.before in
-    let s = start p in
+    let s = start c.before.before.before in
     step_none (model_of s.args.model.now) s.args.packet.now s.args.key.now s.args.node s.args.ordinal _ s.args.slots.now _
-    (body p).edges_are s.pre.1.1.room (only_named s) (subst (EdgeNth _ s.args.ordinal) c.enum_told.given.1 n.nth-edge.ensures)
+    (body c.before.before.before).edges_are s.requires.1.1.room (only_named s) (subst (EdgeNth _ s.args.ordinal) c.in_default.is c.nth_edge.ensures)
 
-sub-edge : tie.Need-overflow-sub-edge
-sub-edge c = (nth c.before).order
+sub-edge : tie.Need-slice_bounds-edge-count
+sub-edge c = (nth c).order
 
-part-edge-start : tie.Need-slice-bounds-edge-start
-part-edge-start c = (nth c.before).order
+part-edge-start : tie.Need-slice_bounds-edge-start
+part-edge-start c = (nth c).order
 
-part-edge-end : tie.Need-slice-bounds-edge-end
-part-edge-end c = (nth c.before).within
+part-edge-end : tie.Need-slice_bounds-edge-end
+part-edge-end c = (nth c).within
 
 -- the inside of the edge that was found
-abbrev inside : tie.After-pattern → List ℕ
+abbrev inside : tie.In-Edge → List ℕ
 inside e =
-    let p = (node e).node_part.result in
-    let (kind, (from, (stop, _))) = e.pattern.given.0 in
+    let p = (node e).node_part-part.result in
+    let (kind, (from, (stop, _))) = e.pattern-1.given.0 in
     take (stop - from) (drop from (take (p.end - p.start) (drop p.start (start (node e)).args.model.now)))
 
 -- it is crossed, whatever its kind is
-found : (e : tie.After-pattern) {kind : Bool} {r : Crossing} {after : List ℕ} → e.pattern.given.0.0 ≡ kind
+found : (e : tie.In-Edge) {kind : Bool} {r : Crossing} {after : List ℕ} → e.in-Edge.pattern ≡ kind
     → let s = start (node e) in
     let c = binding_at s.args.packet.now s.args.key.now s.args.at (length s.args.c.now) in
     Crossed s.args.named s.args.packet.now s.args.key.now (edge_of kind (inside e)) c s.args.slots.now r after
@@ -87,21 +85,18 @@ found : (e : tie.After-pattern) {kind : Bool} {r : Crossing} {after : List ℕ} 
 found e told crossed =
     let s = start (node e) in
     step_crossed (model_of s.args.model.now) s.args.packet.now s.args.key.now s.args.node s.args.ordinal _ s.args.slots.now _
-    (body (node e)).edges_are s.pre.1.0 s.pre.1.1.only_named ((nth e).is ∙ ap (λ kind. some (edge_of kind (inside e))) told) crossed
+    (body (node e)).edges_are s.requires.1.0 s.requires.1.1.only_named ((nth e).is ∙ ap (λ kind. some (edge_of kind (inside e))) told) crossed
 
-returns-2 : tie.Need-returns-2
+returns-2 : tie.Need-returns-then-pattern
 returns-2 c =
-    let test = c.before.before in
-    found test.before.before.before test.if1.true c.cross-pattern.ensures
+    found c.before.before.before.before c.if-pattern.true c.cross_pattern.ensures
 
-cross-value-requires : tie.Need-cross-value-requires
-cross-value-requires c κs = (start (node c.before.before.before)).requires.1.1.stands.alone
+cross-value-requires : tie.Need-cross_value-requires
+cross-value-requires c κs = (start (node c.before.before)).requires.1.1.stands.alone
 
-returns-3 : tie.Need-returns-3
+returns-3 : tie.Need-returns
 returns-3 c =
-    let test = c.before in
-    let e = test.before.before.before in
-    found e test.if1.false (value_crossed (start (node e)).requires.1.1 c.cross-value.ensures)
+    found c.before.before.before c.if-pattern.false (value_crossed (start (node c.before.before.before)).requires.1.1 c.cross_value.ensures)
 
 pub step_spec : {M : Type 1} → statement M
 step_spec =

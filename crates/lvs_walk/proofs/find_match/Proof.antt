@@ -9,27 +9,24 @@ use Rattle.lvs_walk.proofs.find_match.Statement.{statement}
 use Rattle.lvs_walk.proofs.find_match.Tie as tie
 
 -- where the function began
-abbrev began : tie.After-number-in2 → tie.Start
+abbrev began : tie.After-number_in-named → tie.Start
 began c = c.before.before.before.before
 
 walk-requires : tie.Need-walk-requires
 unfolding model_of name_for side_of
 walk-requires c κs =
-    let n = c.before.before.before in
-    let s = began n in
-    (clear_within s.pre.0 n.number-in2.ensures s.pre.1.0 (omega arith) s.pre.1.1, (tt, omega (arith, s.pre.1.0)))
+    let s = began c.before.before in
+    (clear_within s.requires.0 c.number_in-named.ensures s.requires.1.0 (omega arith) s.requires.1.1, (tt, omega (arith, s.requires.1.0)))
 
 returns : tie.Need-returns
 unfolding model_of
 returns c =
-    let w = c.before in
-    let n = w.before.before.before.before in
-    let s = began n in
-    match_first (model_of s.args.model.now) s.args.name.now s.args.from _ _ n.before.number_in.ensures
-    s.pre.1.1 w.walk.ensures
+    let s = began c.before.before.before.before in
+    match_first (model_of s.args.model.now) s.args.name.now s.args.from _ _ c.number_in-start.ensures
+    s.requires.1.1 c.walk.ensures
 
-pub find-match-spec : {M : Type 1} → statement M
-find-match-spec =
+pub find_match_spec : {M : Type 1} → statement M
+find_match_spec =
     tie.close
     (tie.spec
     (λ c κs. search rules)

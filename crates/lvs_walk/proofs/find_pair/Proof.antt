@@ -9,29 +9,26 @@ use Rattle.lvs_walk.proofs.find_pair.Statement.{statement}
 use Rattle.lvs_walk.proofs.find_pair.Tie as tie
 
 -- where the function began
-abbrev began : tie.After-number-in2 → tie.Start
+abbrev began : tie.After-number_in-named → tie.Start
 began c = c.before.before.before.before.before.before
 
 walk-requires : tie.Need-walk-requires
 unfolding model_of name_for side_of
 walk-requires c κs =
-    let n = c.before.before in
-    let s = began n in (
-      clear_within s.pre.0 n.number-in2.ensures s.pre.1.0 s.pre.1.1 s.pre.1.2,
-      (n.before.number_in.ensures, omega (arith, s.pre.1.0, s.pre.1.1)),
+    let s = began c.before.before in (
+      clear_within s.requires.0 c.number_in-named.ensures s.requires.1.0 s.requires.1.1 s.requires.1.2,
+      (c.number_in-start.ensures, omega (arith, s.requires.1.0, s.requires.1.1)),
     )
 
 returns : tie.Need-returns
 unfolding model_of
 returns c =
-    let w = c.before.before in
-    let n = w.before.before.before in
-    let s = began n in
+    let s = began c.before.before.before.before.before in
     pair_first (model_of s.args.model.now) s.args.packet.now s.args.key.now s.args.packet-from s.args.key-from _
-    s.args.path.now n.before.number_in.ensures s.pre.1.2 w.walk.ensures
+    s.args.path.now c.number_in-start.ensures s.requires.1.2 c.walk.ensures
 
-pub find-pair-spec : {M : Type 1} → statement M
-find-pair-spec =
+pub find_pair_spec : {M : Type 1} → statement M
+find_pair_spec =
     tie.close
     (tie.spec
     (λ c κs. search rules)

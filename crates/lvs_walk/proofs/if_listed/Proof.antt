@@ -5,16 +5,16 @@ use Rattle.lvs_walk.specs.Search.{found_if}
 use Rattle.lvs_walk.proofs.if_listed.Statement.{statement}
 use Rattle.lvs_walk.proofs.if_listed.Tie as tie
 
-returns : tie.Need-returns
+returns : tie.Need-returns-then-lists_node
 unfolding found_if
-returns c = rw (sym c.before.lists-node.ensures ∙ c.if1.true)
+returns c = rw (sym c.lists_node.ensures ∙ c.if-lists_node.true)
 
-returns-2 : tie.Need-returns-2
+returns-2 : tie.Need-returns
 unfolding found_if
-returns-2 c = rw (sym c.before.lists-node.ensures ∙ c.if1.false)
+returns-2 c = rw (sym c.lists_node.ensures ∙ c.if-lists_node.false)
 
-pub if-listed-spec : {M : Type 1} → statement M
-if-listed-spec = tie.close
+pub if_listed_spec : {M : Type 1} → statement M
+if_listed_spec = tie.close
     (tie.spec
     (λ c κs. search rules)
     returns

@@ -4,20 +4,20 @@ use Rattle.lvs_walk.specs.Search.{side_of}
 use Rattle.lvs_walk.proofs.side_of.Statement.{statement}
 use Rattle.lvs_walk.proofs.side_of.Tie as tie
 
-returns : tie.Need-returns
+returns : tie.Need-returns-in-Match
 unfolding side_of
-returns c = rw c.enum_told.given.1
+returns c = rw c.in-Match.is
 
-returns-2 : tie.Need-returns-2
+returns-2 : tie.Need-returns-in-Packet
 unfolding side_of
-returns-2 c = rw c.enum-told2.given.1
+returns-2 c = rw c.in-Packet.is
 
-returns-3 : tie.Need-returns-3
+returns-3 : tie.Need-returns-in-Key
 unfolding side_of
-returns-3 c = rw c.enum-told3.given.1
+returns-3 c = rw c.in-Key.is
 
-pub side-of-spec : {M : Type 1} → statement M
-side-of-spec = tie.close
+pub side_of_spec : {M : Type 1} → statement M
+side_of_spec = tie.close
     (tie.spec
     (λ c. search rules)
     (λ c. search rules)

@@ -3,17 +3,17 @@ use Rattle.lvs_edges.proofs.Bodies.{in_value, in_pattern, in_signer}
 use Rattle.lvs_edges.proofs.nodes.in_body.Statement.{statement}
 use Rattle.lvs_edges.proofs.nodes.in_body.Tie as tie
 
-returns : tie.Need-returns
-returns c = in_value c.if1.true
+returns : tie.Need-returns-then-typ-eq-VALUE_EDGE
+returns c = in_value c.if-typ-eq-VALUE_EDGE.true
 
-returns-2 : tie.Need-returns-2
-returns-2 c = in_pattern c.before.if1.false c.if2.true
+returns-2 : tie.Need-returns-then-typ-eq-PATTERN_EDGE
+returns-2 c = in_pattern c.if-typ-eq-VALUE_EDGE.false c.if-typ-eq-PATTERN_EDGE.true
 
-returns-3 : tie.Need-returns-3
-returns-3 c = in_signer c.before.if1.false c.if2.false
+returns-3 : tie.Need-returns
+returns-3 c = in_signer c.if-typ-eq-VALUE_EDGE.false c.if-typ-eq-PATTERN_EDGE.false
 
-pub in-body-spec : {M : Type 1} → statement M
-in-body-spec = tie.close
+pub in_body_spec : {M : Type 1} → statement M
+in_body_spec = tie.close
     (tie.spec
     returns
     returns-2

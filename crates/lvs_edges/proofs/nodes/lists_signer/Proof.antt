@@ -14,65 +14,63 @@ use Rattle.lvs_spec.specs.Types as type
 use Rattle.lvs_edges.proofs.nodes.lists_signer.Statement.{statement}
 use Rattle.lvs_edges.proofs.nodes.lists_signer.Tie as tie
 
-abbrev Inv : tie.invariant-loop
+abbrev Inv : tie.invariant-loop-typ
 Inv s signer place₀ place = Gathered (some_of (eqb signer)) (integers type.SignConstraint) s place.at false
 
-abbrev μ : tie.decreases-loop
+abbrev μ : tie.decreases-loop-typ
 μ s signer place₀ place = length s - place.at
 
 -- the element that was found, and the turn that found it
-step : (c : tie.After-typ Inv μ) → SeenOf _ _ c.before.before.element.ensures c.typ.given.1
-step c = seen _ _ c.before.before.element.ensures c.typ.given.1
+step : (c : tie.In-Found Inv μ) → SeenOf _ _ c.element.ensures c.in-Found.is
+step c = seen _ _ c.element.ensures c.in-Found.is
 
-abbrev turn : tie.After-typ Inv μ → tie.At-loop Inv μ
-turn c = c.before.before.before
+abbrev turn : tie.In-Found Inv μ → tie.At-loop-typ Inv μ
+turn c = c.before.before
 
-loop-holds : tie.Need-loop-init Inv μ
+loop-holds : tie.Need-loop-typ-init Inv μ
 loop-holds c = started
 
-sub-number-of : tie.Need-overflow-sub-number-of Inv μ
-sub-number-of c = (step c.before.before).order
+sub-number-of : tie.Need-slice_bounds-number_of-count Inv μ
+sub-number-of c = (step c.before).order
 
-part-number-of-start : tie.Need-slice-bounds-number-of-start Inv μ
-part-number-of-start c = (step c.before.before).order
+part-number-of-start : tie.Need-slice_bounds-number_of-start Inv μ
+part-number-of-start c = (step c.before).order
 
-part-number-of-end : tie.Need-slice-bounds-number-of-end Inv μ
-part-number-of-end c = (step c.before.before).within
+part-number-of-end : tie.Need-slice_bounds-number_of-end Inv μ
+part-number-of-end c = (step c.before).within
 
-returns : tie.Need-returns Inv μ
+returns : tie.Need-returns-then-number_of-signer Inv μ
 unfolding integers
 returns c =
-    let d = c.before.before.before.before.before in
-    let e = read_found number_of type.SignConstraint (step d) c.before.before.before.if1.true in
-    some_here (turn d).loop.invariant e refl (eq-eqb _ _ (sym c.if2.true ∙ c.before.number_of_lem.ensures))
+    let e = read_found number_of type.SignConstraint (step c.before.before.before.before) c.if-typ-eq-SIGN_CONSTRAINT.true in
+    some_here (turn c.before.before.before.before).loop-typ.invariant e refl (eq-eqb _ _ (sym c.if-number_of-signer.true ∙ c.number_of.ensures))
 
-loop-less : tie.Need-loop-smaller Inv μ
-loop-less c = let st = step c.before.before.before.before.before in omega arith
+loop-less : tie.Need-loop-typ-smaller-else-number_of-signer Inv μ
+loop-less c = let st = step c.before.before.before.before in omega arith
 
-loop-again : tie.Need-loop-preserved Inv μ
+loop-again : tie.Need-loop-typ-preserved-else-number_of-signer Inv μ
 unfolding integers
 loop-again c =
-    let d = c.before.before.before.before.before in
-    let e = read_found number_of type.SignConstraint (step d) c.before.before.before.if1.true in
-    some_later (turn d).loop.invariant e refl (ne_eqb _ _ (λ z. c.if2.false (c.before.number_of_lem.ensures ∙ sym z)))
+    let e = read_found number_of type.SignConstraint (step c.before.before.before.before) c.if-typ-eq-SIGN_CONSTRAINT.true in
+    some_later (turn c.before.before.before.before).loop-typ.invariant e refl (ne_eqb _ _ (λ z. c.if-number_of-signer.false (c.number_of.ensures ∙ sym z)))
 
-loop-less-2 : tie.Need-loop-smaller-2 Inv μ
-loop-less-2 c = let st = step c.before.before in omega arith
+loop-less-2 : tie.Need-loop-typ-smaller Inv μ
+loop-less-2 c = let st = step c.before in omega arith
 
-loop-again-2 : tie.Need-loop-preserved-2 Inv μ
+loop-again-2 : tie.Need-loop-typ-preserved Inv μ
 unfolding integers
-loop-again-2 c = passed (turn c.before.before).loop.inv (read_other _ _ (step c.before.before) c.if1.false)
+loop-again-2 c = passed (turn c.before).loop-typ.invariant (read_other _ _ (step c.before) c.if-typ-eq-SIGN_CONSTRAINT.false)
 
-returns-2 : tie.Need-returns-2 Inv μ
+returns-2 : tie.Need-returns-in-End Inv μ
 unfolding integers
-returns-2 c = ended c.before.before.before.loop.invariant (read_stop _ _ (stop_end _ _ c.before.before.element.ensures c.enum_told.given.1))
+returns-2 c = ended c.loop-typ.invariant (read_stop _ _ (stop_end _ _ c.element.ensures c.in-End.is))
 
-returns-3 : tie.Need-returns-3 Inv μ
+returns-3 : tie.Need-returns-in-Malformed Inv μ
 unfolding integers
-returns-3 c = ended c.before.before.before.loop.invariant (read_stop _ _ (stop_malformed _ _ c.before.before.element.ensures c.enum-told2.given.1))
+returns-3 c = ended c.loop-typ.invariant (read_stop _ _ (stop_malformed _ _ c.element.ensures c.in-Malformed.is))
 
-pub lists-signer-spec : {M : Type 1} → statement M
-lists-signer-spec =
+pub lists_signer_spec : {M : Type 1} → statement M
+lists_signer_spec =
     tie.close
     (tie.spec
     Inv

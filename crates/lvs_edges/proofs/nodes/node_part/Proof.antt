@@ -5,14 +5,14 @@ use Rattle.lvs_edges.proofs.Places.{part_out, part_in, part_words}
 use Rattle.lvs_edges.proofs.nodes.node_part.Statement.{statement}
 use Rattle.lvs_edges.proofs.nodes.node_part.Tie as tie
 
-returns : tie.Need-returns
-returns c = part_out _ _ c.if1.true
+returns : tie.Need-returns-then-node
+returns c = part_out _ _ c.if-node.true
 
-returns-2 : tie.Need-returns-2
-returns-2 c = part_words c.before.before.word.ensures c.word2.ensures ∙ part_in _ _ c.before.before.before.before.if1.false
+returns-2 : tie.Need-returns
+returns-2 c = part_words c.word.ensures c.word-2.ensures ∙ part_in _ _ c.if-node.false
 
-pub node-part-spec : {M : Type 1} → statement M
-node-part-spec =
+pub node_part_spec : {M : Type 1} → statement M
+node_part_spec =
     tie.close
     (tie.spec
     returns

@@ -4,16 +4,16 @@ use Rattle.lvs_edges.specs.Sides.{name_for}
 use Rattle.lvs_edges.proofs.sides.name_for.Statement.{statement}
 use Rattle.lvs_edges.proofs.sides.name_for.Tie as tie
 
-returns : tie.Need-returns
+returns : tie.Need-returns-in-Packet
 unfolding name_for
-returns c = rw c.enum_told.given.1
+returns c = rw c.in-Packet.is
 
-returns-2 : tie.Need-returns-2
+returns-2 : tie.Need-returns-in-Key
 unfolding name_for
-returns-2 c = rw c.enum-told2.given.1
+returns-2 c = rw c.in-Key.is
 
-pub name-for-spec : {M : Type 1} → statement M
-name-for-spec = tie.close
+pub name_for_spec : {M : Type 1} → statement M
+name_for_spec = tie.close
     (tie.spec
     (λ c. search rules)
     (λ c. search rules)

@@ -4,16 +4,16 @@ use Rattle.lvs_edges.specs.Sides.{text_place}
 use Rattle.lvs_edges.proofs.sides.text_place.Statement.{statement}
 use Rattle.lvs_edges.proofs.sides.text_place.Tie as tie
 
-returns : tie.Need-returns
+returns : tie.Need-returns-in-Packet
 unfolding text_place
-returns c = rw c.enum_told.given.1
+returns c = rw c.in-Packet.is
 
-returns-2 : tie.Need-returns-2
+returns-2 : tie.Need-returns-in-Key
 unfolding text_place
-returns-2 c = rw c.enum-told2.given.1
+returns-2 c = rw c.in-Key.is
 
-pub text-place-spec : {M : Type 1} → statement M
-text-place-spec =
+pub text_place_spec : {M : Type 1} → statement M
+text_place_spec =
     tie.close
     (tie.spec
     (λ c. search rules)
