@@ -48,7 +48,7 @@ module _ (m : Model) (p : List ℕ) where
       let es = numbered 0 (edges (node_at m x.node)) in
       each_same (λ (i, e).
       ap (λ l. looked ∷ l) (ap (onward (trace m cs)) (cross_after c x i e) ∙ onward_after cs (trace_after cs) (cross m c x i e))) es ∙
-      sym (map_each (match_after p) _ es)
+      sym (map_each (match_after p) (λ (i, e). looked ∷ onward (trace m cs) (cross m c x i e)) es)
 
   listed_after : (v : ℕ) (w : List ℕ) (y : Match) → map (retold (hit_after p)) (listed m v w y) ≡ listed m v (p ++ w) y
   unfolding listed

@@ -57,7 +57,7 @@ module _ (m : Model) (key : List ℕ) (goal : Goal) where
   unfolding hits trace
   hits_step c cs x =
       let es = numbered 0 (edges (node_at m x.node)) in
-      each_each (continue (worth m key goal)) _ es ∙ each_same (continued c cs x) es
+      each_each (continue (worth m key goal)) (λ (i, e). looked ∷ onward (trace m cs) (cross m c x i e)) es ∙ each_same (continued c cs x) es
 
 -- ---- where no component is left
 

@@ -41,7 +41,9 @@ node c = c.before.before.before
 nth : (c : tie.In-Edge)
     → let p = (node c).node_part-part.result in
     let s = start (node c) in
-    let (kind, (from, (stop, _))) = c.pattern-1.given.0 in
+    let kind = c.in-Edge.pattern in
+    let from = c.in-Edge.p in
+    let stop = c.in-Edge.q in
     Nth (take (p.end - p.start) (drop p.start s.args.model.now)) s.args.ordinal kind from stop
 nth c = subst (EdgeNth _ (start (node c)).args.ordinal) c.in-Edge.is c.nth_edge.ensures
 
@@ -73,7 +75,9 @@ part-edge-end c = (nth c).within
 abbrev inside : tie.In-Edge → List ℕ
 inside e =
     let p = (node e).node_part-part.result in
-    let (kind, (from, (stop, _))) = e.pattern-1.given.0 in
+    let kind = e.in-Edge.pattern in
+    let from = e.in-Edge.p in
+    let stop = e.in-Edge.q in
     take (stop - from) (drop from (take (p.end - p.start) (drop p.start (start (node e)).args.model.now)))
 
 -- it is crossed, whatever its kind is

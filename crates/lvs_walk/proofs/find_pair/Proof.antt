@@ -24,7 +24,7 @@ returns : tie.Need-returns
 unfolding model_of
 returns c =
     let s = began c.before.before.before.before.before in
-    pair_first (model_of s.args.model.now) s.args.packet.now s.args.key.now s.args.packet-from s.args.key-from _
+    pair_first (model_of s.args.model.now) s.args.packet.now s.args.key.now s.args.packet_from s.args.key_from _
     s.args.path.now c.number_in-start.ensures s.requires.1.2 c.walk.ensures
 
 pub find_pair_spec : {M : Type 1} → statement M
