@@ -16,76 +16,66 @@ use Rattle.lvs.proofs.match_name.Statement.{statement}
 use Rattle.lvs.proofs.match_name.Tie as tie
 
 -- where the call began, the model was accepted, and the name was good; and what these say
-abbrev start : tie.After-judge-model → tie.Start
+abbrev start : tie.After-judge_model → tie.Start
 start c = c.before.before.before.before
 
-accepted : (c : tie.After-enum-told) → verdict (start c.before.before).args.model.now ≡ Verdict.accepted c.enum_told.given.0.0
-accepted c = sym c.before.before.judge-model.ensures ∙ ap verdict_of c.enum_told.given.1
+accepted : (c : tie.In_default) → verdict (start c.before).args.model.now ≡ Verdict.accepted c.in_default.field-0
+accepted c = sym c.judge_model.ensures ∙ ap verdict_of c.in_default.is
 
-abbrev judged : tie.After-row → tie.After-enum-told
-judged c = c.before.before.before
+abbrev judged : tie.In-Good → tie.In_default
+judged c = c.before.before
 
-abbrev began : tie.After-row → tie.Start
-began c = start (judged c).before.before
+abbrev began : tie.In-Good → tie.Start
+began c = start (judged c).before
 
-good : (c : tie.After-row) → good_name (row_from (began c).args.name.now c.row.given.0.0.start) ≡ name_reading 21 (began c).args.name.now
-good c = read_good c.before.before.read_name.ensures c.row.given.1
+good : (c : tie.In-Good) → good_name (row_from (began c).args.name.now c.in-Good.row.start) ≡ name_reading 21 (began c).args.name.now
+good c = read_good c.read_name.ensures c.in-Good.is
 
-returns : tie.Need-returns
+returns : tie.Need-returns-in-Refused
 unfolding match_refused
 returns c =
-    let j = c.before.before.before in
-    let a = (start j).args in
-    sym (match_refused_lem a.model.now a.name.now a.buffer.now (sym j.judge-model.ensures ∙ ap verdict_of c.before.number.given.1))
+    let a = (start c.before).args in
+    sym (match_refused_lem a.model.now a.name.now a.buffer.now (sym c.judge_model.ensures ∙ ap verdict_of c.in-Refused.is))
 
-returns-2 : tie.Need-returns-2
+returns-2 : tie.Need-returns-then-buffer-lt-BINDING_WORDS
 unfolding match_refused
 returns-2 c =
-    let f = c.before.before in
-    let a = (began f).args in
-    sym (match_no_room a.model.now a.name.now a.buffer.now (accepted (judged f)) (good f) c.if1.true)
+    let a = (began c.before).args in
+    sym (match_no_room a.model.now a.name.now a.buffer.now (accepted (judged c.before)) (good c.before) c.if-buffer-lt-BINDING_WORDS.true)
 
-node-places-requires : tie.Need-node-places-requires
-node-places-requires c κs = let f = c.before.before.before in (walkable (began f).args.model.now (accepted (judged f)), refl)
+node-places-requires : tie.Need-node_places-requires
+node-places-requires c κs = (walkable (began c.before.before).args.model.now (accepted (judged c.before.before)), refl)
 
-find-match-requires : tie.Need-find-match-requires
+find-match-requires : tie.Need-find_match-requires
 find-match-requires c κs =
-    let f = c.before.before.before.before.before.before in
-    (c.before.before.node-places.ensures, (good_short 21 (began f).args.name.now (sym (good f)), refl))
+    (c.node_places.ensures, (good_short 21 (began c.before.before.before.before.before).args.name.now (sym (good c.before.before.before.before.before)), refl))
 
-write-words-requires : tie.Need-write-words-requires
+write-words-requires : tie.Need-write_words-requires
 write-words-requires c κs =
-    let x = c.before.before.before.before.before in
-    (x.find-match.ensures.room, x.before.before.before.before.before.if1.false)
+    (c.find_match.ensures.room, c.if-buffer-lt-BINDING_WORDS.false)
 
-returns-3 : tie.Need-returns-3
+returns-3 : tie.Need-returns-in-Refused-read_name
 unfolding match_refused
 returns-3 c =
-    let read = c.before.before.before in
-    let e = read.before in
-    let a = (start e.before.before).args in
-    let bad = read_bad read.read_name.ensures c.before.number2.given.1 in
-    sym (match_bad_name a.model.now a.name.now a.buffer.now (accepted e) bad)
+    let a = (start c.before.before.before).args in
+    let bad = read_bad c.read_name.ensures c.in-Refused-read_name.is in
+    sym (match_bad_name a.model.now a.name.now a.buffer.now (accepted c.before.before) bad)
 
-returns-4 : tie.Need-returns-4
+returns-4 : tie.Need-returns-in-Nothing
 returns-4 c =
-    let f = c.before.before.before.before.before.before.before.before.before in
-    let a = (began f).args in
-    let x = c.before.before in
-    sym (match_none a.model.now a.name.now a.buffer.now (accepted (judged f)) (good f) x.before.before.before.before.before.if1.false
-    (found_none x.find-match.ensures c.enum-told2.given.1))
+    let a = (began c.before.before.before.before.before.before.before).args in
+    sym (match_none a.model.now a.name.now a.buffer.now (accepted (judged c.before.before.before.before.before.before.before)) (good c.before.before.before.before.before.before.before) c.if-buffer-lt-BINDING_WORDS.false
+    (found_none c.find_match.ensures c.in-Nothing.is))
 
-returns-5 : tie.Need-returns-5
+returns-5 : tie.Need-returns-in-At
 returns-5 c =
-    let x = c.before.before.before.before.before.before.before.before in
-    let f = x.before.before.before.before.before.before.before in
-    let a = (began f).args in
-    let w = c.before.before.write-words.ensures in
-    match_some a.model.now a.name.now a.buffer.now (accepted (judged f)) (good f) x.before.before.before.before.before.if1.false
-    (found_match x.find-match.ensures c.before.before.before.before.before.before.node.given.1) (w.counted []) (w.words_are [])
+    let a = (began c.before.before.before.before.before.before.before.before.before.before.before.before).args in
+    let w = c.write_words.ensures in
+    match_some a.model.now a.name.now a.buffer.now (accepted (judged c.before.before.before.before.before.before.before.before.before.before.before.before)) (good c.before.before.before.before.before.before.before.before.before.before.before.before) c.if-buffer-lt-BINDING_WORDS.false
+    (found_match c.find_match.ensures c.in-At.is) (w.counted []) (w.words_are [])
 
-pub match-name-spec : {M : Type 1} → statement M
-match-name-spec =
+pub match_name_spec : {M : Type 1} → statement M
+match_name_spec =
     tie.close
     (tie.spec
     (λ c κs. search rules)

@@ -10,91 +10,81 @@ use Rattle.lvs.proofs.sign.Statement.{statement}
 use Rattle.lvs.proofs.sign.Tie as tie
 
 -- where the call began, what was lent to it, and what the inputs are
-abbrev start : tie.After-judge-inputs → tie.Start
+abbrev start : tie.After-judge_inputs → tie.Start
 start c = c.before.before.before.before.before.before
 
-abbrev began : tie.After-p → tie.Start
-began c = start c.before.before
+abbrev began : tie.In-Good → tie.Start
+began c = start c.before
 
 abbrev lent : tie.Start → Buffers
 lent s = record { words = s.args.words.now; path = s.args.path.now }
 
-good : (c : tie.After-p)
-    → let a = (began c).args in GoodInputs a.model.now a.packet.now a.key.now c.p.given.0.0 c.p.given.0.1.0
+good : (c : tie.In-Good)
+    → let a = (began c).args in GoodInputs a.model.now a.packet.now a.key.now c.in-Good.p c.in-Good.k
 good c =
     let a = (began c).args in
-    subst (InputsOf a.model.now a.packet.now a.key.now) c.p.given.1 c.before.before.judge-inputs.ensures
+    subst (InputsOf a.model.now a.packet.now a.key.now) c.in-Good.is c.judge_inputs.ensures
 
 -- there was room for the bindings, then for the path, and then the search
-abbrev roomy : tie.After-node-places → tie.Else1
+abbrev roomy : tie.After-node_places → tie.Else-words-lt-BINDING_WORDS
 roomy c = c.before.before.before.before.before
 
-abbrev inputs : tie.After-node-places → tie.After-p
-inputs c = (roomy c).before.before
+abbrev inputs : tie.After-node_places → tie.In-Good
+inputs c = (roomy c).before
 
-abbrev searched : tie.After-find-pair → tie.After-node-places
+abbrev searched : tie.After-find_pair → tie.After-node_places
 searched c = c.before.before.before.before
 
-returns-3 : tie.Need-returns-3
+returns-3 : tie.Need-returns-in-Refused
 unfolding sign_refused
 returns-3 c =
-    let j = c.before.before.before in
-    let a = (start j).args in
-    sym (sign_refused_lem a.model.now a.packet.now a.key.now (lent (start j))
-    (subst (InputsOf a.model.now a.packet.now a.key.now) c.before.number.given.1 j.judge-inputs.ensures))
+    let a = (start c.before).args in
+    sym (sign_refused_lem a.model.now a.packet.now a.key.now (lent (start c.before))
+    (subst (InputsOf a.model.now a.packet.now a.key.now) c.in-Refused.is c.judge_inputs.ensures))
 
-returns : tie.Need-returns
+returns : tie.Need-returns-then-words-lt-BINDING_WORDS
 unfolding sign_refused
 returns c =
-    let p = c.before.before in
-    let a = (began p).args in
-    sym (sign_no_words a.model.now a.packet.now a.key.now (lent (began p)) (good p) c.if1.true)
+    let a = (began c.before).args in
+    sym (sign_no_words a.model.now a.packet.now a.key.now (lent (began c.before)) (good c.before) c.if-words-lt-BINDING_WORDS.true)
 
-add-if2 : tie.Need-overflow-add-if2
-add-if2 c = let g = good c.before.before.before.before in omega (arith, g.packet_row.few, g.key_row.few)
+add-if2 : tie.Need-overflow_add-p
+add-if2 c = let g = good c.before.before.before in omega (arith, g.packet_row.few, g.key_row.few)
 
-returns-2 : tie.Need-returns-2
+returns-2 : tie.Need-returns-then-path-p
 unfolding sign_refused
 returns-2 c =
-    let r = c.before.before.before in
-    let p = r.before.before in
-    let a = (began p).args in
-    sym (sign_no_room a.model.now a.packet.now a.key.now (lent (began p)) (good p) r.if1.false c.if2.true)
+    let a = (began c.before.before.before.before).args in
+    sym (sign_no_room a.model.now a.packet.now a.key.now (lent (began c.before.before.before.before)) (good c.before.before.before.before) c.if-words-lt-BINDING_WORDS.false c.if-path-p.true)
 
-node-places-requires : tie.Need-node-places-requires
+node-places-requires : tie.Need-node_places-requires
 node-places-requires c κs =
-    let p = c.before.before.before.before.before.before in
-    (walkable (began p).args.model.now (good p).accepted, refl)
+    (walkable (began c.before.before.before.before.before).args.model.now (good c.before.before.before.before.before).accepted, refl)
 
-find-pair-requires : tie.Need-find-pair-requires
+find-pair-requires : tie.Need-find_pair-requires
 find-pair-requires c κs =
-    let n = c.before.before.before in
-    let g = good (inputs n) in
-    (n.node-places.ensures, (g.packet_row.short, g.key_row.short, refl))
+    let g = good (inputs c.before.before.before) in
+    (c.node_places.ensures, (g.packet_row.short, g.key_row.short, refl))
 
 -- the outcome of the search, for the two names
-returns-4 : tie.Need-returns-4
+returns-4 : tie.Need-returns-in-Nothing
 returns-4 c =
-    let f = c.before.before.before.before in
-    let n = searched f in
+    let n = searched c.before.before.before in
     let s = began (inputs n) in
     let a = s.args in
-    sign_none a.model.now a.packet.now a.key.now (lent s) (good (inputs n)) (roomy n).if1.left n.before.before.if2.left
-    f.find-pair.ensures c.enum_told.given.1
+    sign_none a.model.now a.packet.now a.key.now (lent s) (good (inputs n)) (roomy n).if-words-lt-BINDING_WORDS.false n.if-path-p.false
+    c.find_pair.ensures c.in-Nothing.is
 
-returns-5 : tie.Need-returns-5
+returns-5 : tie.Need-returns-in-At
 returns-5 c =
-    let w = c.before.before in
-    let v = w.before.before.before.before in
-    let f = v.before.before.before.before in
-    let n = searched f in
+    let n = searched c.before.before.before.before.before.before.before.before in
     let s = began (inputs n) in
     let a = s.args in
-    sign_some a.model.now a.packet.now a.key.now (lent s) (good (inputs n)) (roomy n).if1.left n.before.before.if2.left
-    f.find-pair.ensures v.v.given.1 w.write-words.ensures
+    sign_some a.model.now a.packet.now a.key.now (lent s) (good (inputs n)) (roomy n).if-words-lt-BINDING_WORDS.false n.if-path-p.false
+    c.find_pair.ensures c.in-At.is c.write_words.ensures
 
-pub sign-spec : {M : Type 1} → statement M
-sign-spec =
+pub sign_spec : {M : Type 1} → statement M
+sign_spec =
     tie.close
     (tie.spec
     (λ c κs. search rules)

@@ -11,66 +11,64 @@ use Rattle.lvs_certificates.proofs.Keys.{unfit_broken, unfit_refused, fit_good}
 use Rattle.lvs_certificates.proofs.first_unfit.Statement.{statement}
 use Rattle.lvs_certificates.proofs.first_unfit.Tie as tie
 
-abbrev Inv : tie.invariant-loop
+abbrev Inv : tie.invariant-loop-end
 Inv list place₀ n₀ place n = Sought unfit list place.at n
 
-abbrev μ : tie.decreases-loop
+abbrev μ : tie.decreases-loop-end
 μ list place₀ n₀ place n = length list - place.at
 
 -- the element that was found, the turn that found it, and what was read of it as a name
-step : (c : tie.After-end Inv μ) → SeenOf _ _ c.before.before.element.ensures c.end.given.1
-step c = seen _ _ c.before.before.element.ensures c.end.given.1
+step : (c : tie.In-Found Inv μ) → SeenOf _ _ c.element.ensures c.in-Found.is
+step c = seen _ _ c.element.ensures c.in-Found.is
 
-abbrev turn : tie.After-end Inv μ → tie.At-loop Inv μ
-turn c = c.before.before.before
+abbrev turn : tie.In-Found Inv μ → tie.At-loop-end Inv μ
+turn c = c.before.before
 
-bytes : (c : tie.At-loop Inv μ) → Bytes c.before.before.args.list.now
-bytes c i = (c.before.shared-slice-known.given i).fits
+bytes : (c : tie.At-loop-end Inv μ) → Bytes c.args.list.now
+bytes c i = (c.shared_slice_known-1.given i).fits
 
-abbrev entry : tie.After-read-name Inv μ → tie.After-end Inv μ
-entry c = c.before.before.before
+abbrev entry : tie.After-read_name Inv μ → tie.In-Found Inv μ
+entry c = c.before.before
 
-loop-holds : tie.Need-loop-init Inv μ
+loop-holds : tie.Need-loop-end-init Inv μ
 loop-holds c = sought_start
 
-sub-read-name : tie.Need-overflow-sub-read-name Inv μ
-sub-read-name c = let st = step c.before in omega (arith, st.before, st.order)
+sub-read-name : tie.Need-slice_bounds-read_name-count Inv μ
+sub-read-name c = let st = step c in omega (arith, st.before, st.order)
 
-part-read-name-start : tie.Need-slice-bounds-read-name-start Inv μ
-part-read-name-start c = let st = step c.before in omega (arith, st.before, st.order)
+part-read-name-start : tie.Need-slice_bounds-read_name-start Inv μ
+part-read-name-start c = let st = step c in omega (arith, st.before, st.order)
 
-part-read-name-end : tie.Need-slice-bounds-read-name-end Inv μ
-part-read-name-end c = (step c.before).within
+part-read-name-end : tie.Need-slice_bounds-read_name-end Inv μ
+part-read-name-end c = (step c).within
 
-returns : tie.Need-returns Inv μ
+returns : tie.Need-returns-in-Refused Inv μ
 returns c =
-    let r = c.before.before in
-    let e = entry r in
-    sought_here (turn e).loop.inv (step e) (unfit_refused (bytes (turn e)) (step e) r.read_name.ensures.is c.enum_told.given.1)
+    let e = entry c.before in
+    sought_here (turn e).loop-end.invariant (step e) (unfit_refused (bytes (turn e)) (step e) c.read_name.ensures.is c.in-Refused.is)
 
-add-n : tie.Need-overflow-add-n Inv μ
+add-n : tie.Need-overflow_add-n Inv μ
 add-n c =
-    let e = entry c.before.before in
+    let e = entry c.before in
     let st = step e in
-    omega (arith, (turn e).loop.inv.few, st.before, st.order, st.within)
+    omega (arith, (turn e).loop-end.invariant.few, st.before, st.order, st.within)
 
-loop-less : tie.Need-loop-smaller Inv μ
-loop-less c = let st = step (entry c.before.before) in omega arith
+loop-less : tie.Need-loop-end-smaller Inv μ
+loop-less c = let st = step (entry c.before) in omega arith
 
-loop-again : tie.Need-loop-preserved Inv μ
+loop-again : tie.Need-loop-end-preserved Inv μ
 loop-again c =
-    let r = c.before.before in
-    let e = entry r in
-    sought_next (turn e).loop.inv (step e) (fit_good (bytes (turn e)) (step e) r.read_name.ensures.is c.enum-told2.given.1)
+    let e = entry c.before in
+    sought_next (turn e).loop-end.invariant (step e) (fit_good (bytes (turn e)) (step e) c.read_name.ensures.is c.in_default.is)
 
-returns-2 : tie.Need-returns-2 Inv μ
-returns-2 c = sought_end c.before.before.before.loop.invariant (seen _ _ c.before.before.element.ensures c.enum-told3.given.1)
+returns-2 : tie.Need-returns-in-End Inv μ
+returns-2 c = sought_end c.loop-end.invariant (seen _ _ c.element.ensures c.in-End.is)
 
-returns-3 : tie.Need-returns-3 Inv μ
-returns-3 c = sought_broken c.before.before.before.loop.invariant (seen _ _ c.before.before.element.ensures c.enum-told4.given.1) unfit_broken
+returns-3 : tie.Need-returns-in-Malformed Inv μ
+returns-3 c = sought_broken c.loop-end.invariant (seen _ _ c.element.ensures c.in-Malformed.is) unfit_broken
 
-pub first-unfit-spec : {M : Type 1} → statement M
-first-unfit-spec =
+pub first_unfit_spec : {M : Type 1} → statement M
+first_unfit_spec =
     tie.close
     (tie.spec
     Inv

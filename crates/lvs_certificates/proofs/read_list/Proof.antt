@@ -7,26 +7,23 @@ use Rattle.lvs_certificates.proofs.Entries.{read_many, read_unfit, read_fit, unf
 use Rattle.lvs_certificates.proofs.read_list.Statement.{statement}
 use Rattle.lvs_certificates.proofs.read_list.Tie as tie
 
-returns : tie.Need-returns
-returns c = read_many _ c.before.too_many.ensures c.if1.true
+returns : tie.Need-returns-then-too_many
+returns c = read_many _ c.too_many.ensures c.if-too_many.true
 
-cast-t6 : tie.Need-overflow-cast-t6
+cast-t6 : tie.Need-overflow_cast-result
 cast-t6 c =
-    let u = c.before.before.before in
-    omega (arith, unfit_below _ u.before.before.too_many.ensures u.before.if1.false u.first-unfit.ensures (ap index_of c.before.i.given.1))
+    omega (arith, unfit_below _ c.too_many.ensures c.if-too_many.false c.first_unfit.ensures (ap index_of c.in-At.is))
 
-returns-2 : tie.Need-returns-2
+returns-2 : tie.Need-returns-in-At
 returns-2 c =
-    let u = c.before.before.before in
-    read_unfit _ u.before.before.too_many.ensures u.before.if1.false u.first-unfit.ensures (ap index_of c.before.i.given.1)
+    read_unfit _ c.too_many.ensures c.if-too_many.false c.first_unfit.ensures (ap index_of c.in-At.is)
 
-returns-3 : tie.Need-returns-3
+returns-3 : tie.Need-returns-in-Nowhere
 returns-3 c =
-    let u = c.before.before in
-    read_fit _ u.before.before.too_many.ensures u.before.if1.false u.first-unfit.ensures (ap index_of c.enum_told.given.1)
+    read_fit _ c.too_many.ensures c.if-too_many.false c.first_unfit.ensures (ap index_of c.in-Nowhere.is)
 
-pub read-list-spec : {M : Type 1} → statement M
-read-list-spec =
+pub read_list_spec : {M : Type 1} → statement M
+read_list_spec =
     tie.close
     (tie.spec
     (λ c κs. search rules)

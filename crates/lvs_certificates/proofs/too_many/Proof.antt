@@ -8,52 +8,43 @@ use Rattle.lvs_certificates.proofs.Entries.{CutOff, cut_start, cut_next, cut_end
 use Rattle.lvs_certificates.proofs.too_many.Statement.{statement}
 use Rattle.lvs_certificates.proofs.too_many.Tie as tie
 
-abbrev Inv : tie.invariant-loop
+abbrev Inv : tie.invariant-loop-n
 Inv list place₀ n₀ place n = CutOff list place.at n
 
-abbrev μ : tie.decreases-loop
+abbrev μ : tie.decreases-loop-n
 μ list place₀ n₀ place n = length list - place.at
 
 -- the element that was found
-step : (c : tie.After-next Inv μ) → SeenOf _ _ c.before.before.element.ensures c.next.given.1
-step c = seen _ _ c.before.before.element.ensures c.next.given.1
+step : (c : tie.In-Found Inv μ) → SeenOf _ _ c.element.ensures c.in-Found.is
+step c = seen _ _ c.element.ensures c.in-Found.is
 
-loop-holds : tie.Need-loop-init Inv μ
+loop-holds : tie.Need-loop-n-init Inv μ
 loop-holds c = cut_start
 
-add-n : tie.Need-overflow-add-n Inv μ
+add-n : tie.Need-overflow_add-n Inv μ
 add-n c =
-    let at-loop = c.before.before.before.before.before in
-    omega (arith, at-loop.loop.invariant.most)
+    omega (arith, c.loop-n.invariant.most)
 
-loop-less : tie.Need-loop-smaller Inv μ
-loop-less c = let st = step c.before in omega arith
+loop-less : tie.Need-loop-n-smaller Inv μ
+loop-less c = let st = step c in omega arith
 
-loop-again : tie.Need-loop-preserved Inv μ
+loop-again : tie.Need-loop-n-preserved Inv μ
 loop-again c =
-    let at-loop-test = c.before.before.before.before in
-    let at-loop = at-loop-test.before in
-    cut_next at-loop.loop.invariant at-loop-test.loop-test.true (step c.before)
+    cut_next c.loop-n.invariant c.loop-n-test.true (step c)
 
-returns : tie.Need-returns Inv μ
+returns : tie.Need-returns-in-End Inv μ
 returns c =
-    let at-element = c.before.before in
-    let at-loop-test = at-element.before in
-    let at-loop = at-loop-test.before in
-    cut_end at-loop.loop.invariant at-loop-test.loop-test.true (seen _ _ at-element.element.ensures c.enum_told.given.1)
+    cut_end c.loop-n.invariant c.loop-n-test.true (seen _ _ c.element.ensures c.in-End.is)
 
-returns-2 : tie.Need-returns-2 Inv μ
+returns-2 : tie.Need-returns-in-Malformed Inv μ
 returns-2 c =
-    let at-element = c.before.before in
-    let at-loop-test = at-element.before in
-    let at-loop = at-loop-test.before in
-    cut_broken at-loop.loop.invariant at-loop-test.loop-test.true (seen _ _ at-element.element.ensures c.enum-told2.given.1)
+    cut_broken c.loop-n.invariant c.loop-n-test.true (seen _ _ c.element.ensures c.in-Malformed.is)
 
-returns-3 : tie.Need-returns-3 Inv μ
-returns-3 c = cut_full c.before.before.loop.invariant c.before.loop-test.false
+returns-3 : tie.Need-returns Inv μ
+returns-3 c = cut_full c.loop-n.invariant c.loop-n-test.false
 
-pub too-many-spec : {M : Type 1} → statement M
-too-many-spec =
+pub too_many_spec : {M : Type 1} → statement M
+too_many_spec =
     tie.close
     (tie.spec
     Inv

@@ -5,32 +5,24 @@ use Rattle.lvs_describe.proofs.Whole.{too_short, numbers_left, texts_left, all_p
 use Rattle.lvs_describe.proofs.describe.Statement.{statement}
 use Rattle.lvs_describe.proofs.describe.Tie as tie
 
-returns : tie.Need-returns
+returns : tie.Need-returns-then-not-rest
 returns c =
-    let counted = c.before.before.before.before in
-    too_short _ _ _ counted.put-model.ensures (not-true _ c.if1.true)
+    too_short _ _ _ c.put_model-rest.ensures c.if-not-rest.true
 
-sub-t20 : tie.Need-overflow-sub-t20
+sub-t20 : tie.Need-overflow_sub-result
 sub-t20 c =
-    let test = c.before.before.before.before.before.before.before.before in
-    let counted = test.before.before.before.before in
-    numbers_left counted.put-model.ensures (not-false _ test.if1.false)
+    numbers_left c.put_model-rest.ensures c.if-not-rest.false
 
-sub-t21 : tie.Need-overflow-sub-t21
+sub-t21 : tie.Need-overflow_sub-result-2
 sub-t21 c =
-    let test = c.before.before.before.before.before.before.before.before.before in
-    let counted = test.before.before.before.before in
-    texts_left counted.put-model.ensures (not-false _ test.if1.false)
+    texts_left c.put_model-rest.ensures c.if-not-rest.false
 
-returns-2 : tie.Need-returns-2
+returns-2 : tie.Need-returns
 returns-2 c =
-    let put = c.before.before.before.before.before.before in
-    let test = put.before.before.before in
-    let counted = test.before.before.before.before in
-    all_put _ _ _ counted.put-model.ensures (not-false _ test.if1.false) put.put-model2.ensures
+    all_put _ _ _ c.put_model-rest.ensures c.if-not-rest.false c.put_model.ensures
 
-pub describe-spec : {M : Type 1} → statement M
-describe-spec =
+pub describe_spec : {M : Type 1} → statement M
+describe_spec =
     tie.close
     (tie.spec
     (λ c. search rules)

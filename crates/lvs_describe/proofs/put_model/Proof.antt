@@ -6,16 +6,11 @@ use Rattle.lvs_describe.proofs.put_model.Tie as tie
 
 returns : tie.Need-returns
 returns c =
-    let symbols = c.before.before.before.before in
-    let nodes = symbols.before.before.before.before.before.before.before in
-    let pair = nodes.before.before.before.before.before in
-    let count = pair.before.before in
-    let start = count.before in
-    model_put _ start.number_in.ensures count.number-in2.ensures (pair.put-pair.ensures _) nodes.put-row.ensures
-    symbols.put-row2.ensures
+    model_put _ c.number_in-start.ensures c.number_in-count.ensures (c.put_pair-rest.ensures _) c.put_row-nodes.ensures
+    c.put_row.ensures
 
-pub put-model-spec : {M : Type 1} → statement M
-put-model-spec =
+pub put_model_spec : {M : Type 1} → statement M
+put_model_spec =
     tie.close
     (tie.spec
     (λ c κs. search rules)

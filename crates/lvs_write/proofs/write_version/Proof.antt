@@ -6,17 +6,17 @@ use Rattle.lvs_write.proofs.Whole.{version_put, version_no_room}
 use Rattle.lvs_write.proofs.write_version.Statement.{statement}
 use Rattle.lvs_write.proofs.write_version.Tie as tie
 
-put-bytes-requires : tie.Need-put-bytes-requires
-put-bytes-requires c κs = leb-true _ _ (sym c.before.before.before.has_room.ensures ∙ c.before.before.if1.true)
+put-bytes-requires : tie.Need-put_bytes-requires
+put-bytes-requires c κs = leb-true _ _ (sym c.has_room.ensures ∙ c.if-has_room.true)
 
-returns : tie.Need-returns
-returns c = version_put c.before.before.put-bytes.ensures
+returns : tie.Need-returns-then-has_room
+returns c = version_put c.put_bytes.ensures
 
-returns-2 : tie.Need-returns-2
-returns-2 c = version_no_room c.before.has_room.ensures c.if1.false
+returns-2 : tie.Need-returns-else-has_room
+returns-2 c = version_no_room c.has_room.ensures c.if-has_room.false
 
-pub write-version-spec : {M : Type 1} → statement M
-write-version-spec =
+pub write_version_spec : {M : Type 1} → statement M
+write_version_spec =
     tie.close
     (tie.spec
     (λ c κs. search rules)

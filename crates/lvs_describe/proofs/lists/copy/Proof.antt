@@ -7,40 +7,39 @@ use Rattle.lvs_describe.proofs.Puts.{Copied, none_copied, one_copied, all_copied
 use Rattle.lvs_describe.proofs.lists.copy.Statement.{statement}
 use Rattle.lvs_describe.proofs.lists.copy.Tie as tie
 
-abbrev Inv : tie.invariant-loop
+abbrev Inv : tie.invariant-loop-i
 Inv s texts₀ at i₀ texts i = Copied s at texts₀ i texts × (i ≤ length s)
 
-abbrev μ : tie.decreases-loop
+abbrev μ : tie.decreases-loop-i
 μ s texts₀ at i₀ texts i = length s - i
 
-loop-holds : tie.Need-loop-init Inv μ
+loop-holds : tie.Need-loop-i-init Inv μ
 loop-holds c = (none_copied _ _ _, search rules)
 
-shared-slice-read-texts : tie.Need-shared-slice-read-texts Inv μ
+shared-slice-read-texts : tie.Need-bounds-s-i Inv μ
 shared-slice-read-texts c = search rules
 
-add-texts : tie.Need-overflow-add-texts Inv μ
+add-texts : tie.Need-overflow_add-texts Inv μ
 add-texts c = search rules
 
-slice-write-texts : tie.Need-slice-write-texts Inv μ
-slice-write-texts c = omega (arith, c.before.before.loop.invariant.0.kept)
+slice-write-texts : tie.Need-bounds-texts-at Inv μ
+slice-write-texts c = omega (arith, c.loop-i.invariant.0.kept)
 
-add-i : tie.Need-overflow-add-i Inv μ
+add-i : tie.Need-overflow_add-i Inv μ
 add-i c = search rules
 
-loop-less : tie.Need-loop-smaller Inv μ
+loop-less : tie.Need-loop-i-smaller Inv μ
 loop-less c = search rules
 
-loop-again : tie.Need-loop-preserved Inv μ
+loop-again : tie.Need-loop-i-preserved Inv μ
 loop-again c =
-    let turn = c.before.before in
-    (one_copied turn.before.requires turn.loop.invariant.0 c.before.loop-test.true, search rules)
+    (one_copied c.requires c.loop-i.invariant.0 c.loop-i-test.true, search rules)
 
-same_length : tie.Need-same-length Inv μ
-same_length c = c.before.loop.invariant.0.kept
+same_length : tie.Need-shape_of-texts Inv μ
+same_length c = c.loop-i.invariant.0.kept
 
 returns : tie.Need-returns Inv μ
-returns c = all_copied c.before.before.requires c.before.loop.invariant.0 c.loop-test.false c.before.loop.invariant.1
+returns c = all_copied c.requires c.loop-i.invariant.0 c.loop-i-test.false c.loop-i.invariant.1
 
 pub copy_spec : {M : Type 1} → statement M
 copy_spec = tie.close (tie.spec Inv μ loop-holds shared-slice-read-texts add-texts slice-write-texts add-i loop-less loop-again same_length returns)

@@ -6,25 +6,22 @@ use Rattle.lvs_describe.proofs.Puts.{part_kept, part_spent, bytes_counted, bytes
 use Rattle.lvs_describe.proofs.lists.put_bytes.Statement.{statement}
 use Rattle.lvs_describe.proofs.lists.put_bytes.Tie as tie
 
-returns : tie.Need-returns
-returns c ns = part_kept (not-true _ c.if1.true)
+returns : tie.Need-returns-then-not-room
+returns c ns = part_kept c.if-not-room.true
 
-returns-2 : tie.Need-returns-2
-returns-2 c ns = part_spent (not-false _ c.before.if1.false) (λ f. omega (arith, f.texts_fit))
+returns-2 : tie.Need-returns-then-left-s
+returns-2 c ns = part_spent c.if-not-room.false (λ f. omega (arith, f.texts_fit))
 
-returns-3 : tie.Need-returns-3
+returns-3 : tie.Need-returns-then-texts-left
 returns-3 c ns =
-    let enough = c.before in
-    bytes_counted _ _ (not-false _ enough.before.if1.false) enough.if2.false ns _ c.if3.true
+    bytes_counted _ _ c.if-not-room.false c.if-left-s.false ns _ c.if-texts-left.true
 
-returns-4 : tie.Need-returns-4
+returns-4 : tie.Need-returns
 returns-4 c ns =
-    let copied = c.before.before in
-    let enough = copied.before.before.before in
-    bytes_put _ _ (not-false _ enough.before.if1.false) enough.if2.false ns _ copied.copy.ensures
+    bytes_put _ _ c.if-not-room.false c.if-left-s.false ns _ c.copy.ensures
 
-pub put-bytes-spec : {M : Type 1} → statement M
-put-bytes-spec =
+pub put_bytes_spec : {M : Type 1} → statement M
+put_bytes_spec =
     tie.close
     (tie.spec
     returns

@@ -6,12 +6,10 @@ use Rattle.lvs_describe.proofs.lists.put_numbered.Tie as tie
 
 returns : tie.Need-returns
 returns c =
-    let text = c.before.before.before.before in
-    let number = text.before.before.before.before.before in
-    describes_then (number.put-number.ensures _) text.put-text.ensures
+    describes_then (c.put_number-rest.ensures _) c.put_text.ensures
 
-pub put-numbered-spec : {M : Type 1} → statement M
-put-numbered-spec =
+pub put_numbered_spec : {M : Type 1} → statement M
+put_numbered_spec =
     tie.close
     (tie.spec
     (λ c κs. search rules)

@@ -6,12 +6,10 @@ use Rattle.lvs_describe.proofs.lists.put_pair.Tie as tie
 
 returns : tie.Need-returns
 returns c ts =
-    let second = c.before.before in
-    let first = second.before.before.before.before in
-    describes_then (first.put-number.ensures ts) (second.put-number2.ensures ts)
+    describes_then (c.put_number-rest.ensures ts) (c.put_number.ensures ts)
 
-pub put-pair-spec : {M : Type 1} → statement M
-put-pair-spec = tie.close
+pub put_pair_spec : {M : Type 1} → statement M
+put_pair_spec = tie.close
     (tie.spec
     (λ c κs. search rules)
     (λ c κs. search rules)

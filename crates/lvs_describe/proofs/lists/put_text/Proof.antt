@@ -6,12 +6,10 @@ use Rattle.lvs_describe.proofs.lists.put_text.Tie as tie
 
 returns : tie.Need-returns
 returns c =
-    let bytes = c.before.before in
-    let number = bytes.before.before.before.before in
-    text_put (number.put-number.ensures _) (bytes.put-bytes.ensures _)
+    text_put (c.put_number-rest.ensures _) (c.put_bytes.ensures _)
 
-pub put-text-spec : {M : Type 1} → statement M
-put-text-spec =
+pub put_text_spec : {M : Type 1} → statement M
+put_text_spec =
     tie.close
     (tie.spec
     (λ c κs. search rules)

@@ -11,48 +11,44 @@ use Rattle.lvs_describe.proofs.Loops.{value_held, tag_held, other_held, none_hel
 use Rattle.lvs_describe.proofs.parts.first_held.Statement.{statement}
 use Rattle.lvs_describe.proofs.parts.first_held.Tie as tie
 
-abbrev Inv : tie.invariant-loop
+abbrev Inv : tie.invariant-loop-typ
 Inv b none place₀ place = Gathered listed (over argument_from) b place.at []
 
-abbrev μ : tie.decreases-loop
+abbrev μ : tie.decreases-loop-typ
 μ b none place₀ place = length b - place.at
 
 -- at an element that was found
-module _ (c : tie.After-typ Inv μ) where
-  step : SeenOf _ _ c.before.before.element.ensures c.typ.given.1
-  step = seen _ _ c.before.before.element.ensures c.typ.given.1
+module _ (c : tie.In-Found Inv μ) where
+  step : SeenOf _ _ c.element.ensures c.in-Found.is
+  step = seen _ _ c.element.ensures c.in-Found.is
 
-loop-holds : tie.Need-loop-init Inv μ
+loop-holds : tie.Need-loop-typ-init Inv μ
 loop-holds c = started
 
-returns : tie.Need-returns Inv μ
+returns : tie.Need-returns-then-typ-eq-VALUE Inv μ
 returns c =
-    let turn = c.before.before in
-    value_held turn.before.before.before.loop.invariant (step turn) c.if1.true
+    value_held c.loop-typ.invariant (step c.before) c.if-typ-eq-VALUE.true
 
-returns-2 : tie.Need-returns-2 Inv μ
+returns-2 : tie.Need-returns-then-typ-eq-TAG Inv μ
 returns-2 c =
-    let turn = c.before.before.before in
-    tag_held turn.before.before.before.loop.invariant (step turn) c.if2.true
+    tag_held c.loop-typ.invariant (step c.before.before) c.if-typ-eq-TAG.true
 
-loop-less : tie.Need-loop-smaller Inv μ
+loop-less : tie.Need-loop-typ-smaller Inv μ
 loop-less c =
-    let turn = c.before.before.before in
-    omega (arith, step turn)
+    omega (arith, step c.before.before)
 
-loop-again : tie.Need-loop-preserved Inv μ
+loop-again : tie.Need-loop-typ-preserved Inv μ
 loop-again c =
-    let turn = c.before.before.before in
-    other_held turn.before.before.before.loop.invariant (step turn) c.before.if1.false c.if2.false
+    other_held c.loop-typ.invariant (step c.before.before) c.if-typ-eq-VALUE.false c.if-typ-eq-TAG.false
 
-returns-3 : tie.Need-returns-3 Inv μ
-returns-3 c = none_held c.before.before.before.loop.invariant (stop_end _ _ c.before.before.element.ensures c.enum_told.given.1)
+returns-3 : tie.Need-returns-in-End Inv μ
+returns-3 c = none_held c.loop-typ.invariant (stop_end _ _ c.element.ensures c.in-End.is)
 
-returns-4 : tie.Need-returns-4 Inv μ
-returns-4 c = none_held c.before.before.before.loop.invariant (stop_malformed _ _ c.before.before.element.ensures c.enum-told2.given.1)
+returns-4 : tie.Need-returns-in-Malformed Inv μ
+returns-4 c = none_held c.loop-typ.invariant (stop_malformed _ _ c.element.ensures c.in-Malformed.is)
 
-pub first-held-spec : {M : Type 1} → statement M
-first-held-spec =
+pub first_held_spec : {M : Type 1} → statement M
+first_held_spec =
     tie.close
     (tie.spec
     Inv

@@ -4,20 +4,16 @@ use Rattle.lvs_describe.proofs.Containers.{value_argument_put, tag_argument_put}
 use Rattle.lvs_describe.proofs.parts.put_argument.Statement.{statement}
 use Rattle.lvs_describe.proofs.parts.put_argument.Tie as tie
 
-returns : tie.Need-returns
+returns : tie.Need-returns-then-held
 returns c =
-    let value = c.before.before.before.before in
-    let test = value.before.before.before in
-    value_argument_put _ test.before.before.first-held.ensures test.if1.true value.put-component.ensures
+    value_argument_put _ c.first_held-held.ensures c.if-held.true c.put_component.ensures
 
-returns-2 : tie.Need-returns-2
+returns-2 : tie.Need-returns
 returns-2 c =
-    let tag = c.before.before in
-    let test = tag.before.before.before in
-    tag_argument_put _ test.before.before.first-held.ensures test.if1.false tag.before.before.number_of_lem.ensures (tag.put-pair.ensures _)
+    tag_argument_put _ c.first_held-held.ensures c.if-held.false c.number_of.ensures (c.put_pair.ensures _)
 
-pub put-argument-spec : {M : Type 1} → statement M
-put-argument-spec =
+pub put_argument_spec : {M : Type 1} → statement M
+put_argument_spec =
     tie.close
     (tie.spec
     (λ c κs. search rules)

@@ -6,13 +6,10 @@ use Rattle.lvs_describe.proofs.parts.put_component.Tie as tie
 
 returns : tie.Need-returns
 returns c =
-    let component = c.before.before.before.before in
-    let number = component.before.before.before.before.before.before.before in
-    let held = number.before.before in
-    component_put _ held.component-in.ensures (number.put-number.ensures _) component.put-numbered.ensures
+    component_put _ c.component_in-held.ensures (c.put_number-rest.ensures _) c.put_numbered.ensures
 
-pub put-component-spec : {M : Type 1} → statement M
-put-component-spec =
+pub put_component_spec : {M : Type 1} → statement M
+put_component_spec =
     tie.close
     (tie.spec
     (λ c κs. search rules)

@@ -6,12 +6,10 @@ use Rattle.lvs_describe.proofs.parts.put_symbol.Tie as tie
 
 returns : tie.Need-returns
 returns c =
-    let text = c.before.before.before.before in
-    let inside = text.before.before.before.before in
-    symbol_put _ inside.before.number_in.ensures inside.inside_of.ensures text.put-numbered.ensures
+    symbol_put _ c.number_in-tag.ensures c.inside_of-part.ensures c.put_numbered.ensures
 
-pub put-symbol-spec : {M : Type 1} → statement M
-put-symbol-spec =
+pub put_symbol_spec : {M : Type 1} → statement M
+put_symbol_spec =
     tie.close
     (tie.spec
     (λ c κs. search rules)

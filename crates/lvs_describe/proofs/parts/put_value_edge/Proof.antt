@@ -6,12 +6,10 @@ use Rattle.lvs_describe.proofs.parts.put_value_edge.Tie as tie
 
 returns : tie.Need-returns
 returns c =
-    let component = c.before.before.before.before in
-    let value = component.before.before.before in
-    value_edge_put _ value.before.destination.ensures value.value_of_lem.ensures component.put-component.ensures
+    value_edge_put _ c.destination-destination.ensures c.value_of.ensures c.put_component.ensures
 
-pub put-value-edge-spec : {M : Type 1} → statement M
-put-value-edge-spec =
+pub put_value_edge_spec : {M : Type 1} → statement M
+put_value_edge_spec =
     tie.close
     (tie.spec
     (λ c κs. search rules)

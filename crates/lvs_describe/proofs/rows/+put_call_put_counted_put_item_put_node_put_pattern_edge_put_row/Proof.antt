@@ -126,20 +126,15 @@ abbrev put-call-need : (put-call-lts.Claims → In 3 put-call-kinds.ps → Out 3
     → ℕ → Type 0
 put-call-need N t = N (put-call-calls t) (put-call-at t) put-call.Post
 
-put-call-put-row-requires : (t : ℕ) → put-call-need put-call-lts.Need-put-row-requires t
+put-call-put-row-requires : (t : ℕ) → put-call-need put-call-lts.Need-put_row-requires t
 put-call-put-row-requires t c κs =
-    let function = c.before.before.before.before.before.before in
-    let inside = function.before.before.before.before in
-    (omega (arith, inside.before.before.before.before.requires.0), tt)
+    (omega (arith, c.requires.0), tt)
 
 put-call-returns : (t : ℕ) → put-call-need put-call-lts.Need-returns t
 put-call-returns t c =
-    let arguments = c.before.before.before.before in
-    let function = arguments.before.before.before.before.before.before.before in
-    let inside = function.before.before.before.before in
-    let a = inside.before.before.before.before.args in
-    call_put _ {s = state a.room a.numbers.now a.texts.now} inside.inside_of.ensures function.put-numbered.ensures
-    arguments.put-row.ensures
+    let a = c.args in
+    call_put _ {s = state a.room a.numbers.now a.texts.now} c.inside_of-part.ensures c.put_numbered-rest.ensures
+    c.put_row.ensures
 
 -- ---- put_item
 
@@ -175,98 +170,77 @@ abbrev put-item-need : (put-item-lts.Claims → In 3 put-item-kinds.ps → Out 3
     → ℕ → Type 0
 put-item-need N t = N (put-item-calls t) (put-item-at t) put_item.Post
 
-put-item-put-node-requires : (t : ℕ) → put-item-need put-item-lts.Need-put-node-requires t
+put-item-put-node-requires : (t : ℕ) → put-item-need put-item-lts.Need-put_node-requires t
 put-item-put-node-requires t c κs =
-    let told = c.before.before.before in
-    (omega (arith, told.before.before.before.before.requires.0), tt)
+    (omega (arith, c.requires.0), tt)
 
-put-item-put-pattern-edge-requires : (t : ℕ) → put-item-need put-item-lts.Need-put-pattern-edge-requires t
+put-item-put-pattern-edge-requires : (t : ℕ) → put-item-need put-item-lts.Need-put_pattern_edge-requires t
 put-item-put-pattern-edge-requires t c κs =
-    let told = c.before.before.before in
-    (omega (arith, told.before.before.before.before.requires.0), tt)
+    (omega (arith, c.requires.0), tt)
 
-put-item-put-row-requires : (t : ℕ) → put-item-need put-item-lts.Need-put-row-requires t
+put-item-put-row-requires : (t : ℕ) → put-item-need put-item-lts.Need-put_row-requires t
 put-item-put-row-requires t c κs =
-    let told = c.before.before.before in
-    (omega (arith, told.before.before.before.before.requires.0), tt)
+    (omega (arith, c.requires.0), tt)
 
-put-item-put-row-requires-2 : (t : ℕ) → put-item-need put-item-lts.Need-put-row-requires-2 t
+put-item-put-row-requires-2 : (t : ℕ) → put-item-need put-item-lts.Need-put_row-requires-in-ConstraintOption t
 put-item-put-row-requires-2 t c κs =
-    let told = c.before.before.before in
-    (omega (arith, told.before.before.before.before.requires.0), tt)
+    (omega (arith, c.requires.0), tt)
 
-put-item-put-call-requires : (t : ℕ) → put-item-need put-item-lts.Need-put-call-requires t
+put-item-put-call-requires : (t : ℕ) → put-item-need put-item-lts.Need-put_call-requires t
 put-item-put-call-requires t c κs =
-    let told = c.before.before.before.before in
-    (omega (arith, told.before.before.before.before.requires.0), tt)
+    (omega (arith, c.requires.0), tt)
 
-put-item-returns : (t : ℕ) → put-item-need put-item-lts.Need-returns t
+put-item-returns : (t : ℕ) → put-item-need put-item-lts.Need-returns-in-Node t
 put-item-returns t c =
-    let node = c.before.before.before.before in
-    node_item _ _ node.before.before.before.enum_told.given.1 node.put-node.ensures
+    node_item _ _ c.in-Node.is c.put_node.ensures
 
-put-item-returns-2 : (t : ℕ) → put-item-need put-item-lts.Need-returns-2 t
+put-item-returns-2 : (t : ℕ) → put-item-need put-item-lts.Need-returns-in-Symbol t
 put-item-returns-2 t c =
-    let symbol = c.before.before.before.before in
-    symbol_item _ _ symbol.before.before.before.enum-told2.given.1 symbol.put-symbol.ensures
+    symbol_item _ _ c.in-Symbol.is c.put_symbol.ensures
 
-put-item-returns-3 : (t : ℕ) → put-item-need put-item-lts.Need-returns-3 t
+put-item-returns-3 : (t : ℕ) → put-item-need put-item-lts.Need-returns-in-Parent t
 put-item-returns-3 t c =
-    let parent = c.before.before in
-    parent_item _ _ parent.before.before.before.enum-told3.given.1 parent.before.before.number_of_lem.ensures (parent.put-number.ensures _)
+    parent_item _ _ c.in-Parent.is c.number_of.ensures (c.put_number.ensures _)
 
-put-item-returns-4 : (t : ℕ) → put-item-need put-item-lts.Need-returns-4 t
+put-item-returns-4 : (t : ℕ) → put-item-need put-item-lts.Need-returns-in-RuleName t
 put-item-returns-4 t c =
-    let name = c.before.before.before.before in
-    name_item _ _ name.before.before.before.enum-told4.given.1 name.put-text.ensures
+    name_item _ _ c.in-RuleName.is c.put_text.ensures
 
-put-item-returns-5 : (t : ℕ) → put-item-need put-item-lts.Need-returns-5 t
+put-item-returns-5 : (t : ℕ) → put-item-need put-item-lts.Need-returns-in-ValueEdge t
 put-item-returns-5 t c =
-    let edge = c.before.before.before.before in
-    value_edge_item _ _ edge.before.before.before.enum-told5.given.1 edge.put-value-edge.ensures
+    value_edge_item _ _ c.in-ValueEdge.is c.put_value_edge.ensures
 
-put-item-returns-6 : (t : ℕ) → put-item-need put-item-lts.Need-returns-6 t
+put-item-returns-6 : (t : ℕ) → put-item-need put-item-lts.Need-returns-in-PatternEdge t
 put-item-returns-6 t c =
-    let edge = c.before.before.before.before in
-    pattern_edge_item _ _ edge.before.before.before.enum-told6.given.1 edge.put-pattern-edge.ensures
+    pattern_edge_item _ _ c.in-PatternEdge.is c.put_pattern_edge.ensures
 
-put-item-returns-7 : (t : ℕ) → put-item-need put-item-lts.Need-returns-7 t
+put-item-returns-7 : (t : ℕ) → put-item-need put-item-lts.Need-returns-in-Signer t
 put-item-returns-7 t c =
-    let signer = c.before.before in
-    signer_item _ _ signer.before.before.before.enum-told7.given.1 signer.before.before.number-of2.ensures (signer.put-number2.ensures _)
+    signer_item _ _ c.in-Signer.is c.number_of-in-Signer.ensures (c.put_number-in-Signer.ensures _)
 
-put-item-returns-8 : (t : ℕ) → put-item-need put-item-lts.Need-returns-8 t
+put-item-returns-8 : (t : ℕ) → put-item-need put-item-lts.Need-returns-in-Constraint t
 put-item-returns-8 t c =
-    let options = c.before.before.before.before in
-    constraint_item _ _ options.before.before.before.enum-told8.given.1 options.put-row.ensures
+    constraint_item _ _ c.in-Constraint.is c.put_row.ensures
 
-put-item-returns-9 : (t : ℕ) → put-item-need put-item-lts.Need-returns-9 t
+put-item-returns-9 : (t : ℕ) → put-item-need put-item-lts.Need-returns-in-ConstraintOption t
 put-item-returns-9 t c =
-    let terms = c.before.before.before.before in
-    option_item _ _ terms.before.before.before.enum-told9.given.1 terms.put-row2.ensures
+    option_item _ _ c.in-ConstraintOption.is c.put_row-in-ConstraintOption.ensures
 
-put-item-returns-10 : (t : ℕ) → put-item-need put-item-lts.Need-returns-10 t
+put-item-returns-10 : (t : ℕ) → put-item-need put-item-lts.Need-returns-in-33 t
 put-item-returns-10 t c =
-    let value = c.before.before.before.before in
-    let arm = value.before.before.before in
-    value_item _ _ arm.before.enum-told10.given.1 arm.match2.keys1 value.put-component.ensures
+    value_item _ _ c.in-Term.is c.in-33.is c.put_component.ensures
 
-put-item-returns-11 : (t : ℕ) → put-item-need put-item-lts.Need-returns-11 t
+put-item-returns-11 : (t : ℕ) → put-item-need put-item-lts.Need-returns-in-35 t
 put-item-returns-11 t c =
-    let tag = c.before.before in
-    let arm = tag.before.before.before in
-    tag_item _ _ arm.before.enum-told10.given.1 arm.match2.keys2 tag.before.before.number-of3.ensures (tag.put-pair.ensures _)
+    tag_item _ _ c.in-Term.is c.in-35.is c.number_of-in-35.ensures (c.put_pair.ensures _)
 
-put-item-returns-12 : (t : ℕ) → put-item-need put-item-lts.Need-returns-12 t
+put-item-returns-12 : (t : ℕ) → put-item-need put-item-lts.Need-returns-in_default t
 put-item-returns-12 t c =
-    let call = c.before.before.before.before in
-    let arm = call.before.before.before in
-    call_item _ _ arm.before.enum-told10.given.1 arm.match2.rest.0.1 arm.match2.rest.1 call.put-call.ensures
+    call_item _ _ c.in-Term.is c.in_default.in_default-own.rest.0.1 c.in_default.in_default-own.rest.1 c.put_call.ensures
 
-put-item-returns-13 : (t : ℕ) → put-item-need put-item-lts.Need-returns-13 t
+put-item-returns-13 : (t : ℕ) → put-item-need put-item-lts.Need-returns-in-Argument t
 put-item-returns-13 t c =
-    let argument = c.before.before.before.before in
-    argument_item _ _ argument.before.before.before.enum-told11.given.1 argument.put-argument.ensures
+    argument_item _ _ c.in-Argument.is c.put_argument.ensures
 
 -- ---- put_node
 
@@ -284,53 +258,34 @@ abbrev put-node-need : (put-node-lts.Claims → In 3 put-node-kinds.ps → Out 3
     → ℕ → Type 0
 put-node-need N t = N (put-node-calls t) (put-node-at t) put-node.Post
 
-put-node-put-own-requires : (t : ℕ) → put-node-need put-node-lts.Need-put-own-requires t
-put-node-put-own-requires t c κs = c.before.count-each.ensures.parents_are
+put-node-put-own-requires : (t : ℕ) → put-node-need put-node-lts.Need-put_own-own-requires t
+put-node-put-own-requires t c κs = c.count_each-count.ensures.parents_are
 
-put-node-put-counted-requires : (t : ℕ) → put-node-need put-node-lts.Need-put-counted-requires t
+put-node-put-counted-requires : (t : ℕ) → put-node-need put-node-lts.Need-put_counted-names-requires t
 put-node-put-counted-requires t c κs =
-    let own = c.before.before.before.before in
-    let count = own.before.before in
-    (omega (arith, count.before.before.before.before.requires.0), count.count-each.ensures.names_are)
+    (omega (arith, c.requires.0), c.count_each-count.ensures.names_are)
 
-put-node-put-counted-requires-2 : (t : ℕ) → put-node-need put-node-lts.Need-put-counted-requires-2 t
+put-node-put-counted-requires-2 : (t : ℕ) → put-node-need put-node-lts.Need-put_counted-values-requires t
 put-node-put-counted-requires-2 t c κs =
-    let names = c.before.before.before.before.before.before in
-    let own = names.before.before.before.before.before in
-    let count = own.before.before in
-    (omega (arith, count.before.before.before.before.requires.0), count.count-each.ensures.values_are)
+    (omega (arith, c.requires.0), c.count_each-count.ensures.values_are)
 
-put-node-put-counted-requires-3 : (t : ℕ) → put-node-need put-node-lts.Need-put-counted-requires-3 t
+put-node-put-counted-requires-3 : (t : ℕ) → put-node-need put-node-lts.Need-put_counted-patterns-requires t
 put-node-put-counted-requires-3 t c κs =
-    let values = c.before.before.before.before.before.before in
-    let names = values.before.before.before.before.before.before.before in
-    let own = names.before.before.before.before.before in
-    let count = own.before.before in
-    (omega (arith, count.before.before.before.before.requires.0), count.count-each.ensures.patterns_are)
+    (omega (arith, c.requires.0), c.count_each-count.ensures.patterns_are)
 
-put-node-put-counted-requires-4 : (t : ℕ) → put-node-need put-node-lts.Need-put-counted-requires-4 t
+put-node-put-counted-requires-4 : (t : ℕ) → put-node-need put-node-lts.Need-put_counted-requires t
 put-node-put-counted-requires-4 t c κs =
-    let patterns = c.before.before.before.before.before.before in
-    let values = patterns.before.before.before.before.before.before.before in
-    let names = values.before.before.before.before.before.before.before in
-    let own = names.before.before.before.before.before in
-    let count = own.before.before in
-    (omega (arith, count.before.before.before.before.requires.0), count.count-each.ensures.signers_are)
+    (omega (arith, c.requires.0), c.count_each-count.ensures.signers_are)
 
 put-node-returns : (t : ℕ) → put-node-need put-node-lts.Need-returns t
 put-node-returns t c =
-    let signers = c.before.before.before.before in
-    let patterns = signers.before.before.before.before.before.before.before in
-    let values = patterns.before.before.before.before.before.before.before in
-    let names = values.before.before.before.before.before.before.before in
-    let own = names.before.before.before.before.before in
-    node_put _ (own.put-own.ensures _) names.put-counted.ensures values.put-counted2.ensures patterns.put-counted3.ensures
-    signers.put-counted4.ensures
+    node_put _ (c.put_own-own.ensures _) c.put_counted-names.ensures c.put_counted-values.ensures c.put_counted-patterns.ensures
+    c.put_counted.ensures
 
-put-node-same-length : (t : ℕ) → put-node-need put-node-lts.Need-same-length t
+put-node-same-length : (t : ℕ) → put-node-need put-node-lts.Need-shape_of-numbers t
 put-node-same-length t c = (put-node-returns t c).numbers_are.auto
 
-put-node-same-length-2 : (t : ℕ) → put-node-need put-node-lts.Need-same-length-2 t
+put-node-same-length-2 : (t : ℕ) → put-node-need put-node-lts.Need-shape_of-texts t
 put-node-same-length-2 t c = (put-node-returns t c).texts_are.auto
 
 -- ---- put_pattern_edge
@@ -352,33 +307,28 @@ abbrev put-pattern-edge-need : (edge-lts.Claims → In 3 edge-kinds.ps → Out 3
 put-pattern-edge-need N t = N (put-pattern-edge-calls t) (put-pattern-edge-at t) put-pattern-edge.Post
 
 -- where the fields were read
-abbrev fields : (t : ℕ) → put-pattern-edge-need edge-lts.After-slice-known3 t → put-pattern-edge-need edge-lts.After-pattern-fields t
+abbrev fields : (t : ℕ) → put-pattern-edge-need edge-lts.After-slice_known-3-1 t → put-pattern-edge-need edge-lts.After-pattern_fields-fields t
 fields t c = c.before.before.before.before
 
-put-pattern-edge-returns : (t : ℕ) → put-pattern-edge-need edge-lts.Need-returns t
+put-pattern-edge-returns : (t : ℕ) → put-pattern-edge-need edge-lts.Need-returns-then-b-from t
 put-pattern-edge-returns t c =
-    let none = c.before.before in
-    let test = none.before.before in
-    let known = test.before in
-    plain_edge_put _ (fields t known).pattern-fields.ensures (known.before.before.put-pair.ensures _) test.if1.true
-    (none.put-number.ensures _)
+    plain_edge_put _ (fields t c.before.before.before.before.before).pattern_fields-fields.ensures (c.put_pair-rest.ensures _) c.if-b-from.true
+    (c.put_number.ensures _)
 
-put-pattern-edge-sub-put-row : (t : ℕ) → put-pattern-edge-need edge-lts.Need-overflow-sub-put-row t
-put-pattern-edge-sub-put-row t c = (fields t c.before).pattern-fields.ensures.within
+put-pattern-edge-sub-put-row : (t : ℕ) → put-pattern-edge-need edge-lts.Need-slice_bounds-put_row-count t
+put-pattern-edge-sub-put-row t c = (fields t c.before).pattern_fields-fields.ensures.within
 
-put-pattern-edge-part-put-row-start : (t : ℕ) → put-pattern-edge-need edge-lts.Need-slice-bounds-put-row-start t
-put-pattern-edge-part-put-row-start t c = (fields t c.before).pattern-fields.ensures.within
+put-pattern-edge-part-put-row-start : (t : ℕ) → put-pattern-edge-need edge-lts.Need-slice_bounds-put_row-start t
+put-pattern-edge-part-put-row-start t c = (fields t c.before).pattern_fields-fields.ensures.within
 
-put-pattern-edge-put-row-requires : (t : ℕ) → put-pattern-edge-need edge-lts.Need-put-row-requires t
+put-pattern-edge-put-row-requires : (t : ℕ) → put-pattern-edge-need edge-lts.Need-put_row-requires t
 put-pattern-edge-put-row-requires t c κs =
     let edge = (fields t c.before.before.before.before).before.before.before.before in
-    (simp (length-take, length-drop) (omega (arith, edge.pre.0)), tt)
+    (simp (length-take, length-drop) (omega (arith, edge.requires.0)), tt)
 
-put-pattern-edge-returns-2 : (t : ℕ) → put-pattern-edge-need edge-lts.Need-returns-2 t
+put-pattern-edge-returns-2 : (t : ℕ) → put-pattern-edge-need edge-lts.Need-returns t
 put-pattern-edge-returns-2 t c =
-    let constraints = c.before.before.before.before in
-    let known = constraints.before.before.before.before.before in
-    pattern_edge_put _ (fields t known).pattern-fields.ensures (known.before.before.put-pair.ensures _) constraints.put-row.ensures
+    pattern_edge_put _ (fields t c.before.before.before.before.before.before.before.before.before).pattern_fields-fields.ensures (c.put_pair-rest.ensures _) c.put_row.ensures
 
 -- ---- put_counted
 
@@ -394,82 +344,69 @@ put-counted-calls t = (
   put_item.Post,
 )
 
-abbrev Inv : put-counted-lts.invariant-loop
+abbrev Inv : put-counted-lts.invariant-loop-typ
 Inv s sort count numbers₀ texts₀ rest₀ place₀ numbers texts rest place =
     Walked sort s place.at (state rest₀ numbers₀ texts₀) (state rest numbers texts)
 
-abbrev μ : put-counted-lts.decreases-loop
+abbrev μ : put-counted-lts.decreases-loop-typ
 μ s sort count numbers₀ texts₀ rest₀ place₀ numbers texts rest place = length s - place.at
 
 abbrev put-counted-need
     : (put-counted-lts.Claims → In 3 put-counted-kinds.ps → Out 3 put-counted-kinds.ps put-counted-kinds.r
-    → put-counted-lts.invariant-loop → put-counted-lts.decreases-loop → Type 0)
+    → put-counted-lts.invariant-loop-typ → put-counted-lts.decreases-loop-typ → Type 0)
     → ℕ → Type 0
 put-counted-need N t = N (put-counted-calls t) (put-counted-at t) put-counted.Post Inv μ
 
 -- at an element that was found
-module _ (t : ℕ) (c : put-counted-need put-counted-lts.After-typ t) where
-  step : SeenOf _ _ c.before.before.element.ensures c.typ.given.1
-  step = seen _ _ c.before.before.element.ensures c.typ.given.1
+module _ (t : ℕ) (c : put-counted-need put-counted-lts.In-Found t) where
+  step : SeenOf _ _ c.element.ensures c.in-Found.is
+  step = seen _ _ c.element.ensures c.in-Found.is
 
-put-counted-loop-holds : (t : ℕ) → put-counted-need put-counted-lts.Need-loop-init t
+put-counted-loop-holds : (t : ℕ) → put-counted-need put-counted-lts.Need-loop-typ-init t
 put-counted-loop-holds t c = walk_first
 
-put-counted-sub-put-item : (t : ℕ) → put-counted-need put-counted-lts.Need-overflow-sub-put-item t
-put-counted-sub-put-item t c = omega (arith, step t c.before.before.before)
+put-counted-sub-put-item : (t : ℕ) → put-counted-need put-counted-lts.Need-slice_bounds-put_item-count t
+put-counted-sub-put-item t c = omega (arith, step t c.before.before)
 
-put-counted-part-put-item-start : (t : ℕ) → put-counted-need put-counted-lts.Need-slice-bounds-put-item-start t
-put-counted-part-put-item-start t c = omega (arith, step t c.before.before.before)
+put-counted-part-put-item-start : (t : ℕ) → put-counted-need put-counted-lts.Need-slice_bounds-put_item-start t
+put-counted-part-put-item-start t c = omega (arith, step t c.before.before)
 
-put-counted-part-put-item-end : (t : ℕ) → put-counted-need put-counted-lts.Need-slice-bounds-put-item-end t
-put-counted-part-put-item-end t c = omega (arith, step t c.before.before.before)
+put-counted-part-put-item-end : (t : ℕ) → put-counted-need put-counted-lts.Need-slice_bounds-put_item-end t
+put-counted-part-put-item-end t c = omega (arith, step t c.before.before)
 
-put-counted-put-item-requires : (t : ℕ) → put-counted-need put-counted-lts.Need-put-item-requires t
+put-counted-put-item-requires : (t : ℕ) → put-counted-need put-counted-lts.Need-put_item-rest-requires t
 put-counted-put-item-requires t c κs =
-    let turn = c.before.before.before.before.before.before in
-    let loop = turn.before.before.before in
-    let number = loop.before.before.before.before in
-    (simp (length-take, length-drop) (omega (arith, number.before.before.before.before.before.requires.0, step t turn)), tt)
+    (simp (length-take, length-drop) (omega (arith, c.requires.0, step t turn)), tt)
 
-put-counted-loop-less : (t : ℕ) → put-counted-need put-counted-lts.Need-loop-smaller t
+put-counted-loop-less : (t : ℕ) → put-counted-need put-counted-lts.Need-loop-typ-smaller-then-is_of t
 put-counted-loop-less t c =
-    let item = c.before.before.before.before in
     omega (arith, step t item.before.before.before.before.before.before.before)
 
-put-counted-loop-again : (t : ℕ) → put-counted-need put-counted-lts.Need-loop-preserved t
+put-counted-loop-again : (t : ℕ) → put-counted-need put-counted-lts.Need-loop-typ-preserved-then-is_of t
 put-counted-loop-again t c =
-    let item = c.before.before.before.before in
-    let test = item.before.before.before.before in
-    let turn = test.before.before.before in
-    walk_item turn.before.before.before.loop.invariant (item_found _ (step t turn) (sym test.before.is-of.ensures ∙ test.if2.true))
-    item.put_item.ensures
+    walk_item c.loop-typ.invariant (item_found _ (step t turn) (sym c.is_of.ensures ∙ c.if-is_of.true))
+    c.put_item-rest.ensures
 
-put-counted-loop-less-2 : (t : ℕ) → put-counted-need put-counted-lts.Need-loop-smaller-2 t
-put-counted-loop-less-2 t c = omega (arith, step t c.before.before.before)
+put-counted-loop-less-2 : (t : ℕ) → put-counted-need put-counted-lts.Need-loop-typ-smaller t
+put-counted-loop-less-2 t c = omega (arith, step t c.before.before)
 
-put-counted-loop-again-2 : (t : ℕ) → put-counted-need put-counted-lts.Need-loop-preserved-2 t
+put-counted-loop-again-2 : (t : ℕ) → put-counted-need put-counted-lts.Need-loop-typ-preserved t
 put-counted-loop-again-2 t c =
-    let turn = c.before.before.before in
-    walk_past turn.before.before.before.loop.invariant (item_other _ (step t turn) (sym c.before.is-of.ensures ∙ c.if2.false))
+    walk_past c.loop-typ.invariant (item_other _ (step t turn) (sym c.is_of.ensures ∙ c.if-is_of.false))
 
-put-counted-returns : (t : ℕ) → put-counted-need put-counted-lts.Need-returns t
+put-counted-returns : (t : ℕ) → put-counted-need put-counted-lts.Need-returns-then-count-lt1 t
 put-counted-returns t c =
-    let number = c.before.before.before in
-    walk_none _ _ number.before.before.before.before.before.requires.1 c.if1.true (number.put-number.ensures _)
+    walk_none _ _ c.requires.1 c.if-count-lt1.true (c.put_number-rest.ensures _)
 
-put-counted-returns-2 : (t : ℕ) → put-counted-need put-counted-lts.Need-returns-2 t
+put-counted-returns-2 : (t : ℕ) → put-counted-need put-counted-lts.Need-returns-in-End t
 put-counted-returns-2 t c =
-    let loop = c.before.before.before in
-    let number = loop.before.before.before.before in
-    walk_end loop.loop.invariant number.before.before.before.before.before.requires.1 (number.put-number.ensures _)
-    (items_stop _ (stop_end _ _ c.before.before.element.ensures c.enum_told.given.1))
+    walk_end c.loop-typ.invariant c.requires.1 (c.put_number-rest.ensures _)
+    (items_stop _ (stop_end _ _ c.element.ensures c.in-End.is))
 
-put-counted-returns-3 : (t : ℕ) → put-counted-need put-counted-lts.Need-returns-3 t
+put-counted-returns-3 : (t : ℕ) → put-counted-need put-counted-lts.Need-returns-in-Malformed t
 put-counted-returns-3 t c =
-    let loop = c.before.before.before in
-    let number = loop.before.before.before.before in
-    walk_end loop.loop.invariant number.before.before.before.before.before.requires.1 (number.put-number.ensures _)
-    (items_stop _ (stop_malformed _ _ c.before.before.element.ensures c.enum-told2.given.1))
+    walk_end c.loop-typ.invariant c.requires.1 (c.put_number-rest.ensures _)
+    (items_stop _ (stop_malformed _ _ c.element.ensures c.in-Malformed.is))
 
 -- ---- put_row
 
@@ -485,16 +422,15 @@ abbrev put-row-need : (put-row-lts.Claims → In 3 put-row-kinds.ps → Out 3 pu
     → ℕ → Type 0
 put-row-need N t = N (put-row-calls t) (put-row-at t) put-row.Post
 
-put-row-put-counted-requires : (t : ℕ) → put-row-need put-row-lts.Need-put-counted-requires t
+put-row-put-counted-requires : (t : ℕ) → put-row-need put-row-lts.Need-put_counted-requires t
 put-row-put-counted-requires t c κs =
-    let count = c.before.before in
-    (omega (arith, count.before.before.before.before.requires.0), count.count-items.ensures)
+    (omega (arith, c.requires.0), c.count_items-count.ensures)
 
 put-row-returns : (t : ℕ) → put-row-need put-row-lts.Need-returns t
-put-row-returns t c = c.before.before.before.before.put-counted.ensures
+put-row-returns t c = c.put_counted.ensures
 
-pub +put-call-put-counted-put-item-put-node-put-pattern-edge-put-row-spec : {M : Type 1} → statement M
-+put-call-put-counted-put-item-put-node-put-pattern-edge-put-row-spec = close μ-put-call μ-put-counted μ-put-item μ-put-node μ-put-pattern-edge μ-put-row
+pub +put_call_put_counted_put_item_put_node_put_pattern_edge_put_row_spec : {M : Type 1} → statement M
++put_call_put_counted_put_item_put_node_put_pattern_edge_put_row_spec = close μ-put-call μ-put-counted μ-put-item μ-put-node μ-put-pattern-edge μ-put-row
     (λ t. put-call-lts.spec (put-call-calls t)
     (put-call-at t)
     put-call.Post

@@ -9,75 +9,63 @@ use Rattle.lvs_describe.proofs.Loops.{Tallied, tally_first, tally_next, tally_en
 use Rattle.lvs_describe.proofs.rows.count_each.Statement.{statement}
 use Rattle.lvs_describe.proofs.rows.count_each.Tie as tie
 
-abbrev Inv : tie.invariant-loop
+abbrev Inv : tie.invariant-loop-typ
 Inv node count₀ place₀ count place = Tallied node place.at count
 
-abbrev μ : tie.decreases-loop
+abbrev μ : tie.decreases-loop-typ
 μ node count₀ place₀ count place = length node - place.at
 
 -- at an element that was found
-module _ (c : tie.After-typ Inv μ) where
-  step : SeenOf _ _ c.before.before.element.ensures c.typ.given.1
-  step = seen _ _ c.before.before.element.ensures c.typ.given.1
+module _ (c : tie.In-Found Inv μ) where
+  step : SeenOf _ _ c.element.ensures c.in-Found.is
+  step = seen _ _ c.element.ensures c.in-Found.is
 
-loop-holds : tie.Need-loop-init Inv μ
+loop-holds : tie.Need-loop-typ-init Inv μ
 loop-holds c = tally_first
 
 -- of the parents
-add-t9 : tie.Need-overflow-add-t9 Inv μ
+add-t9 : tie.Need-overflow_add-count Inv μ
 add-t9 c =
-    let turn = c.before.before.before in
-    omega (arith, item_fits _ turn.before.before.before.loop.invariant.parents_in (step turn) c.before.one_of_lem.ensures)
+    omega (arith, item_fits _ c.loop-typ.invariant.parents_in (step c.before.before) c.one_of.ensures)
 
 -- of the names
-add-t12 : tie.Need-overflow-add-t12 Inv μ
+add-t12 : tie.Need-overflow_add-count-in-Found Inv μ
 add-t12 c =
-    let turn = c.before.before.before.before.before in
-    omega (arith, item_fits _ turn.before.before.before.loop.invariant.names_in (step turn) c.before.one-of2.ensures)
+    omega (arith, item_fits _ c.loop-typ.invariant.names_in (step c.before.before.before.before) c.one_of-in-Found.ensures)
 
 -- of the values
-add-t15 : tie.Need-overflow-add-t15 Inv μ
+add-t15 : tie.Need-overflow_add-count-in-Found-2 Inv μ
 add-t15 c =
-    let turn = c.before.before.before.before.before.before.before in
-    omega (arith, item_fits _ turn.before.before.before.loop.invariant.values_in (step turn) c.before.one-of3.ensures)
+    omega (arith, item_fits _ c.loop-typ.invariant.values_in (step c.before.before.before.before.before.before) c.one_of-in-Found-2.ensures)
 
 -- of the patterns
-add-t18 : tie.Need-overflow-add-t18 Inv μ
+add-t18 : tie.Need-overflow_add-count-in-Found-3 Inv μ
 add-t18 c =
-    let turn = c.before.before.before.before.before.before.before.before.before in
-    omega (arith, item_fits _ turn.before.before.before.loop.invariant.patterns_in (step turn) c.before.one-of4.ensures)
+    omega (arith, item_fits _ c.loop-typ.invariant.patterns_in (step c.before.before.before.before.before.before.before.before) c.one_of-in-Found-3.ensures)
 
 -- of the signers
-add-t21 : tie.Need-overflow-add-t21 Inv μ
+add-t21 : tie.Need-overflow_add-count-in-Found-4 Inv μ
 add-t21 c =
-    let turn = c.before.before.before.before.before.before.before.before.before.before.before in
-    omega (arith, item_fits _ turn.before.before.before.loop.invariant.signers_in (step turn) c.before.one-of5.ensures)
+    omega (arith, item_fits _ c.loop-typ.invariant.signers_in (step c.before.before.before.before.before.before.before.before.before.before) c.one_of-in-Found-4.ensures)
 
-loop-less : tie.Need-loop-smaller Inv μ
+loop-less : tie.Need-loop-typ-smaller Inv μ
 loop-less c =
-    let turn = c.before.before.before.before.before.before.before.before.before.before.before in
-    omega (arith, step turn)
+    omega (arith, step c.before.before.before.before.before.before.before.before.before.before)
 
-loop-again : tie.Need-loop-preserved Inv μ
+loop-again : tie.Need-loop-typ-preserved Inv μ
 loop-again c =
-    let signers = c.before in
-    let patterns = signers.before.before in
-    let values = patterns.before.before in
-    let names = values.before.before in
-    let parents = names.before.before in
-    let turn = parents.before.before in
-    tally_next turn.before.before.before.loop.invariant (step turn) parents.one_of_lem.ensures names.one-of2.ensures values.one-of3.ensures
-    patterns.one-of4.ensures
-    signers.one-of5.ensures
+    tally_next c.loop-typ.invariant (step c.before.before.before.before.before.before.before.before.before.before) c.one_of.ensures c.one_of-in-Found.ensures c.one_of-in-Found-2.ensures
+    c.one_of-in-Found-3.ensures
+    c.one_of-in-Found-4.ensures
 
-returns : tie.Need-returns Inv μ
-returns c = tally_end c.before.before.before.loop.invariant (stop_end _ _ c.before.before.element.ensures c.enum_told.given.1)
+returns : tie.Need-returns-in-End Inv μ
+returns c = tally_end c.loop-typ.invariant (stop_end _ _ c.element.ensures c.in-End.is)
 
-returns-2 : tie.Need-returns-2 Inv μ
-returns-2 c = tally_end c.before.before.before.loop.invariant (stop_malformed _ _ c.before.before.element.ensures c.enum-told2.given.1)
+returns-2 : tie.Need-returns-in-Malformed Inv μ
+returns-2 c = tally_end c.loop-typ.invariant (stop_malformed _ _ c.element.ensures c.in-Malformed.is)
 
-pub count-each-spec : {M : Type 1} → statement M
-count-each-spec =
+pub count_each_spec : {M : Type 1} → statement M
+count_each_spec =
     tie.close
     (tie.spec
     Inv

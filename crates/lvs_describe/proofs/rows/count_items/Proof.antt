@@ -11,49 +11,46 @@ use Rattle.lvs_describe.proofs.Loops.{item_found, item_other, items_stop, item_r
 use Rattle.lvs_describe.proofs.rows.count_items.Statement.{statement}
 use Rattle.lvs_describe.proofs.rows.count_items.Tie as tie
 
-abbrev Inv : tie.invariant-loop
+abbrev Inv : tie.invariant-loop-typ
 Inv s sort n₀ place₀ n place = Gathered counted (items_of sort) s place.at n
 
-abbrev μ : tie.decreases-loop
+abbrev μ : tie.decreases-loop-typ
 μ s sort n₀ place₀ n place = length s - place.at
 
 -- at an element that was found
-module _ (c : tie.After-typ Inv μ) where
-  step : SeenOf _ _ c.before.before.element.ensures c.typ.given.1
-  step = seen _ _ c.before.before.element.ensures c.typ.given.1
+module _ (c : tie.In-Found Inv μ) where
+  step : SeenOf _ _ c.element.ensures c.in-Found.is
+  step = seen _ _ c.element.ensures c.in-Found.is
 
-loop-holds : tie.Need-loop-init Inv μ
+loop-holds : tie.Need-loop-typ-init Inv μ
 loop-holds c = started
 
-add-n : tie.Need-overflow-add-n Inv μ
+add-n : tie.Need-overflow_add-n Inv μ
 add-n c =
-    let turn = c.before.before.before in
-    omega (arith, item_room _ turn.before.before.before.loop.invariant (step turn) (sym c.before.is-of.ensures ∙ c.if1.true))
+    omega (arith, item_room _ c.loop-typ.invariant (step c.before.before) (sym c.is_of.ensures ∙ c.if-is_of.true))
 
-loop-less : tie.Need-loop-smaller Inv μ
-loop-less c = omega (arith, step c.before.before.before)
+loop-less : tie.Need-loop-typ-smaller-then-is_of Inv μ
+loop-less c = omega (arith, step c.before.before)
 
-loop-again : tie.Need-loop-preserved Inv μ
+loop-again : tie.Need-loop-typ-preserved-then-is_of Inv μ
 loop-again c =
-    let turn = c.before.before.before in
-    took turn.before.before.before.loop.invariant (item_found _ (step turn) (sym c.before.is-of.ensures ∙ c.if1.true)) refl
+    took c.loop-typ.invariant (item_found _ (step c.before.before) (sym c.is_of.ensures ∙ c.if-is_of.true)) refl
 
-loop-less-2 : tie.Need-loop-smaller-2 Inv μ
-loop-less-2 c = omega (arith, step c.before.before.before)
+loop-less-2 : tie.Need-loop-typ-smaller Inv μ
+loop-less-2 c = omega (arith, step c.before.before)
 
-loop-again-2 : tie.Need-loop-preserved-2 Inv μ
+loop-again-2 : tie.Need-loop-typ-preserved Inv μ
 loop-again-2 c =
-    let turn = c.before.before.before in
-    passed turn.before.before.before.loop.invariant (item_other _ (step turn) (sym c.before.is-of.ensures ∙ c.if1.false))
+    passed c.loop-typ.invariant (item_other _ (step c.before.before) (sym c.is_of.ensures ∙ c.if-is_of.false))
 
-returns : tie.Need-returns Inv μ
-returns c = ended c.before.before.before.loop.invariant (items_stop _ (stop_end _ _ c.before.before.element.ensures c.enum_told.given.1))
+returns : tie.Need-returns-in-End Inv μ
+returns c = ended c.loop-typ.invariant (items_stop _ (stop_end _ _ c.element.ensures c.in-End.is))
 
-returns-2 : tie.Need-returns-2 Inv μ
-returns-2 c = ended c.before.before.before.loop.invariant (items_stop _ (stop_malformed _ _ c.before.before.element.ensures c.enum-told2.given.1))
+returns-2 : tie.Need-returns-in-Malformed Inv μ
+returns-2 c = ended c.loop-typ.invariant (items_stop _ (stop_malformed _ _ c.element.ensures c.in-Malformed.is))
 
-pub count-items-spec : {M : Type 1} → statement M
-count-items-spec =
+pub count_items_spec : {M : Type 1} → statement M
+count_items_spec =
     tie.close
     (tie.spec
     Inv

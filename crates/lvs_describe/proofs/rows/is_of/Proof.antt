@@ -11,52 +11,52 @@ use Rattle.lvs_describe.proofs.rows.is_of.Tie as tie
 by : (t : ℕ) {k k' : Sort} → k ≡ k' → is_of k' t ≡ is_of k t
 by t e = ap (λ (x : Sort). is_of x t) (sym e)
 
-returns : tie.Need-returns
+returns : tie.Need-returns-in-Node
 unfolding is_of
-returns c = by _ c.enum_told.given.1
+returns c = by _ c.in-Node.is
 
-returns-2 : tie.Need-returns-2
+returns-2 : tie.Need-returns-in-Symbol
 unfolding is_of
-returns-2 c = by _ c.enum-told2.given.1
+returns-2 c = by _ c.in-Symbol.is
 
-returns-3 : tie.Need-returns-3
+returns-3 : tie.Need-returns-in-Parent
 unfolding is_of
-returns-3 c = by _ c.enum-told3.given.1
+returns-3 c = by _ c.in-Parent.is
 
-returns-4 : tie.Need-returns-4
+returns-4 : tie.Need-returns-in-RuleName
 unfolding is_of
-returns-4 c = by _ c.enum-told4.given.1
+returns-4 c = by _ c.in-RuleName.is
 
-returns-5 : tie.Need-returns-5
+returns-5 : tie.Need-returns-in-ValueEdge
 unfolding is_of
-returns-5 c = by _ c.enum-told5.given.1
+returns-5 c = by _ c.in-ValueEdge.is
 
-returns-6 : tie.Need-returns-6
+returns-6 : tie.Need-returns-in-PatternEdge
 unfolding is_of
-returns-6 c = by _ c.enum-told6.given.1
+returns-6 c = by _ c.in-PatternEdge.is
 
-returns-7 : tie.Need-returns-7
+returns-7 : tie.Need-returns-in-Signer
 unfolding is_of
-returns-7 c = by _ c.enum-told7.given.1
+returns-7 c = by _ c.in-Signer.is
 
-returns-8 : tie.Need-returns-8
+returns-8 : tie.Need-returns-in-Constraint
 unfolding is_of
-returns-8 c = by _ c.enum-told8.given.1
+returns-8 c = by _ c.in-Constraint.is
 
-returns-9 : tie.Need-returns-9
+returns-9 : tie.Need-returns-in-ConstraintOption
 unfolding is_of
-returns-9 c = by _ c.enum-told9.given.1
+returns-9 c = by _ c.in-ConstraintOption.is
 
-returns-10 : tie.Need-returns-10
+returns-10 : tie.Need-returns-in-Term
 unfolding is_of
-returns-10 c = c.is-term.ensures ∙ by _ c.before.enum-told10.given.1
+returns-10 c = c.is_term.ensures ∙ by _ c.in-Term.is
 
-returns-11 : tie.Need-returns-11
+returns-11 : tie.Need-returns-in-Argument
 unfolding is_of
-returns-11 c = by _ c.enum-told11.given.1
+returns-11 c = by _ c.in-Argument.is
 
-pub is-of-spec : {M : Type 1} → statement M
-is-of-spec =
+pub is_of_spec : {M : Type 1} → statement M
+is_of_spec =
     tie.close
     (tie.spec
     (λ c. search rules)

@@ -4,10 +4,10 @@ use Rattle.lvs_write.proofs.Places.{cap_full}
 use Rattle.lvs_write.proofs.leaves.add.Statement.{statement}
 use Rattle.lvs_write.proofs.leaves.add.Tie as tie
 
-returns : tie.Need-returns
+returns : tie.Need-returns-then-size-ge-CAP
 returns c = cap_full _ (search rules)
 
-returns-2 : tie.Need-returns-2
+returns-2 : tie.Need-returns-then-n-ge-CAP
 returns-2 c = cap_full _ (search rules)
 
 pub add_spec : {M : Type 1} → statement M

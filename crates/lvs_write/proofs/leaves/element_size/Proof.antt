@@ -5,10 +5,10 @@ use Rattle.lvs_write.proofs.leaves.element_size.Statement.{statement}
 use Rattle.lvs_write.proofs.leaves.element_size.Tie as tie
 
 returns : tie.Need-returns
-returns c = size_of _ _ c.before.number_size.ensures.0 c.number-size2.ensures.0
+returns c = size_of _ _ c.number_size.ensures.0 c.number_size-2.ensures.0
 
-pub element-size-spec : {M : Type 1} → statement M
-element-size-spec =
+pub element_size_spec : {M : Type 1} → statement M
+element_size_spec =
     tie.close
     (tie.spec
     (λ c κs. search rules)

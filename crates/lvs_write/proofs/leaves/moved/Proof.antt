@@ -10,10 +10,10 @@ abbrev placed : Cursor → ℕ → Cursor
 placed s k = record { ok = s.ok; number = s.number; text = s.text; at = k }
 
 returns : tie.Need-returns
-returns c = ap (placed c.before.args.s) c.add.ensures
+returns c = ap (placed c.args.s) c.add.ensures
 
-pub moved-spec : {M : Type 1} → statement M
-moved-spec = tie.close
+pub moved_spec : {M : Type 1} → statement M
+moved_spec = tie.close
     (tie.spec
     (λ c κs. search rules)
     returns)

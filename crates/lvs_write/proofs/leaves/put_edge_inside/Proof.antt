@@ -6,13 +6,10 @@ use Rattle.lvs_write.proofs.leaves.put_edge_inside.Tie as tie
 
 returns : tie.Need-returns
 returns c =
-    let at-put-component = c.before.before in
-    let at-put-integer = at-put-component.before.before.before.before in
-    let at_pre = at-put-integer.before.before.before.before in
-    edge_stored _ _ _ at_pre.requires at-put-integer.put-integer.ensures at-put-component.put-component.ensures
+    edge_stored _ _ _ c.requires c.put_integer-first.ensures c.put_component.ensures
 
-pub put-edge-inside-spec : {M : Type 1} → statement M
-put-edge-inside-spec =
+pub put_edge_inside_spec : {M : Type 1} → statement M
+put_edge_inside_spec =
     tie.close
     (tie.spec
     (λ c. search rules)

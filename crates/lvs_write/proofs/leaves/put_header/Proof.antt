@@ -7,30 +7,26 @@ use Rattle.tlv_writer.proofs.Stores.{stored_length}
 use Rattle.lvs_write.proofs.leaves.put_header.Statement.{statement}
 use Rattle.lvs_write.proofs.leaves.put_header.Tie as tie
 
-put-number-requires : tie.Need-put-number-requires
-put-number-requires c κs = omega (arith, c.before.before.requires, header_length c.before.before.args.typ c.before.before.args.n)
+put-number-requires : tie.Need-put_number-middle-requires
+put-number-requires c κs = omega (arith, c.requires, header_length c.args.typ c.args.n)
 
-put-number-requires-2 : tie.Need-put-number-requires-2
+put-number-requires-2 : tie.Need-put_number-requires
 put-number-requires-2 c κs =
-    let at-put-number = c.before.before.before in
-    let at_pre = at-put-number.before.before.before in
     omega (
       arith,
-      at_pre.requires,
-      header_length at_pre.args.typ at_pre.args.n,
-      at-put-number.put-number.ensures.0,
+      c.requires,
+      header_length c.args.typ c.args.n,
+      c.put_number-middle.ensures.0,
       stored_length
-          at-put-number.put-number.ensures.1,
+          c.put_number-middle.ensures.1,
     )
 
 returns : tie.Need-returns
 returns c =
-    let at-put-number2 = c.before.before in
-    let at-put-number = at-put-number2.before.before.before.before in
-    header_both _ _ _ at-put-number.put-number.ensures at-put-number2.put-number2.ensures
+    header_both _ _ _ c.put_number-middle.ensures c.put_number.ensures
 
-pub put-header-spec : {M : Type 1} → statement M
-put-header-spec =
+pub put_header_spec : {M : Type 1} → statement M
+put_header_spec =
     tie.close
     (tie.spec
     put-number-requires

@@ -5,47 +5,32 @@ use Rattle.lvs_write.proofs.Places.{width_most, header_fits, inside_fits, width_
 use Rattle.lvs_write.proofs.leaves.put_integer.Statement.{statement}
 use Rattle.lvs_write.proofs.leaves.put_integer.Tie as tie
 
-element-size-requires : tie.Need-element-size-requires
-element-size-requires c κs = omega (arith, width_most _ c.integer-width.ensures)
+element-size-requires : tie.Need-element_size-size-requires
+element-size-requires c κs = omega (arith, width_most _ c.integer_width-w.ensures)
 
-put-header-requires : tie.Need-put-header-requires
+put-header-requires : tie.Need-put_header-inside-requires
 put-header-requires c κs =
-    let at-if1 = c.before in
-    let at-has-room = at-if1.before in
-    let at-element-size = at-has-room.before in
-    header_fits _ _ _ at-element-size.element_size.ensures _ at-has-room.has_room.ensures at-if1.if1.true
+    header_fits _ _ _ c.element_size-size.ensures _ c.has_room.ensures c.if-has_room.true
 
-put-digits-requires : tie.Need-put-digits-requires
+put-digits-requires : tie.Need-put_digits-requires
 put-digits-requires c κs =
-    let at-put-header = c.before.before.before in
-    let at-if1 = at-put-header.before.before in
-    let at-has-room = at-if1.before in
-    let at-element-size = at-has-room.before in
-    let at-integer-width = at-element-size.before in
-    width_digits _ at-integer-width.integer-width.ensures (search rules)
-    (inside_fits _ _ _ at-element-size.element_size.ensures at-has-room.has_room.ensures
-    at-if1.if1.true at-put-header.put-header.ensures)
+    width_digits _ c.integer_width-w.ensures (search rules)
+    (inside_fits _ _ _ c.element_size-size.ensures c.has_room.ensures
+    c.if-has_room.true c.put_header-inside.ensures)
 
-returns : tie.Need-returns
+returns : tie.Need-returns-then-has_room
 returns c =
-    let at-put-digits = c.before.before in
-    let at-put-header = at-put-digits.before.before.before.before in
-    let at-element-size = at-put-header.before.before.before.before in
-    let at-integer-width = at-element-size.before in
-    puts_all _ _ _ at-element-size.element_size.ensures (integer_size_lem _ at-integer-width.integer-width.ensures)
-    at-put-header.put-header.ensures
-    (integer_stored _ at-integer-width.integer-width.ensures at-put-digits.put-digits.ensures)
+    puts_all _ _ _ c.element_size-size.ensures (integer_size_lem _ c.integer_width-w.ensures)
+    c.put_header-inside.ensures
+    (integer_stored _ c.integer_width-w.ensures c.put_digits.ensures)
 
-returns-2 : tie.Need-returns-2
+returns-2 : tie.Need-returns-else-has_room
 returns-2 c =
-    let at-has-room = c.before in
-    let at-element-size = at-has-room.before in
-    let at-integer-width = at-element-size.before in
-    puts_none _ _ _ at-element-size.element_size.ensures _ (integer_size_lem _ at-integer-width.integer-width.ensures)
-    at-has-room.has_room.ensures c.if1.false
+    puts_none _ _ _ c.element_size-size.ensures _ (integer_size_lem _ c.integer_width-w.ensures)
+    c.has_room.ensures c.if-has_room.false
 
-pub put-integer-spec : {M : Type 1} → statement M
-put-integer-spec =
+pub put_integer_spec : {M : Type 1} → statement M
+put_integer_spec =
     tie.close
     (tie.spec
     (λ c κs. search rules)

@@ -7,37 +7,25 @@ use Rattle.lvs_write.proofs.Places.{has_all, pair_put, pair_none}
 use Rattle.lvs_write.proofs.leaves.put_pair.Statement.{statement}
 use Rattle.lvs_write.proofs.leaves.put_pair.Tie as tie
 
-add-put-integer : tie.Need-overflow-add-put-integer
+add-put-integer : tie.Need-overflow_add-at
 add-put-integer c =
-    let at-if1 = c.before.before.before.before.before in
-    let at-has-room = at-if1.before in
-    let at-integer-size2 = at-has-room.before in
-    let at-integer-size = at-integer-size2.before in
-    let at-args = at-integer-size.before.before in
-    let size = at-integer-size.integer_size_lem.result + at-integer-size2.integer-size2.result in
-    omega (arith, has_all at-args.args.at size (length at-args.args.out.now) at-has-room.has_room.ensures at-if1.if1.true)
+    let size = c.integer_size-first.result + c.integer_size.result in
+    omega (arith, has_all c.args.at size (length c.args.out.now) c.has_room.ensures c.if-has_room.true)
 
-returns : tie.Need-returns
+returns : tie.Need-returns-then-has_room
 returns c =
-    let at-put-integer2 = c.before.before in
-    let at-put-integer = at-put-integer2.before.before.before.before in
-    let at-integer-size2 = at-put-integer.before.before.before.before in
-    let at-integer-size = at-integer-size2.before in
-    pair_put _ _ _ _ _ at-integer-size.integer_size_lem.ensures.0
-    at-integer-size2.integer-size2.ensures.0 at-put-integer.put-integer.ensures
-    at-put-integer2.put-integer2.ensures
+    pair_put _ _ _ _ _ c.integer_size-first.ensures.0
+    c.integer_size.ensures.0 c.put_integer.ensures
+    c.put_integer-then-has_room.ensures
 
-returns-2 : tie.Need-returns-2
+returns-2 : tie.Need-returns-else-has_room
 returns-2 c =
-    let at-has-room = c.before in
-    let at-integer-size2 = at-has-room.before in
-    let at-integer-size = at-integer-size2.before in
-    pair_none _ _ _ _ _ at-integer-size.integer_size_lem.ensures.0
-    at-integer-size2.integer-size2.ensures.0 at-has-room.has_room.ensures
-    c.if1.false
+    pair_none _ _ _ _ _ c.integer_size-first.ensures.0
+    c.integer_size.ensures.0 c.has_room.ensures
+    c.if-has_room.false
 
-pub put-pair-spec : {M : Type 1} → statement M
-put-pair-spec =
+pub put_pair_spec : {M : Type 1} → statement M
+put_pair_spec =
     tie.close
     (tie.spec
     (λ c κs. search rules)

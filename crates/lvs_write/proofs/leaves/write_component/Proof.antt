@@ -9,27 +9,21 @@ use Rattle.lvs_spec.specs.Types as type
 use Rattle.lvs_write.proofs.leaves.write_component.Statement.{statement}
 use Rattle.lvs_write.proofs.leaves.write_component.Tie as tie
 
-returns : tie.Need-returns
+returns : tie.Need-returns-then-not-next
 returns c =
-    let at-take-text = c.before.before.before in
-    let at-take-number = at-take-text.before in
-    leaf_stopped (component_taken _ _ at-take-number.take-number.ensures at-take-text.take-text.ensures)
+    leaf_stopped (component_taken _ _ c.take_number-kind.ensures c.take_text-taken.ensures)
     (λ e. el type.Value (el e.type e.inside)) (component_spelled _)
-    (not-true _ c.if1.true)
+    c.if-not-next.true
 
-returns-2 : tie.Need-returns-2
+returns-2 : tie.Need-returns
 returns-2 c =
-    let at-put-component = c.before.before.before in
-    let at-if1 = at-put-component.before.before.before in
-    let at-take-text = at-if1.before.before.before in
-    let at-take-number = at-take-text.before in
-    leaf_wrote (component_taken _ _ at-take-number.take-number.ensures at-take-text.take-text.ensures)
+    leaf_wrote (component_taken _ _ c.take_number-kind.ensures c.take_text-taken.ensures)
     (λ e. el type.Value (el e.type e.inside)) (component_spelled _)
-    (not-false _ at-if1.if1.false) c.moved.ensures at-put-component.put-component.ensures.size_is
-    at-put-component.put-component.ensures.put
+    c.if-not-next.false c.moved.ensures c.put_component-size.ensures.size_is
+    c.put_component-size.ensures.put
 
-pub write-component-spec : {M : Type 1} → statement M
-write-component-spec =
+pub write_component_spec : {M : Type 1} → statement M
+write_component_spec =
     tie.close
     (tie.spec
     (λ c κs. search rules)

@@ -8,25 +8,19 @@ use Rattle.lvs_description.specs.Format.{integer_bytes}
 use Rattle.lvs_write.proofs.leaves.write_integer.Statement.{statement}
 use Rattle.lvs_write.proofs.leaves.write_integer.Tie as tie
 
-returns : tie.Need-returns
+returns : tie.Need-returns-then-not-next
 returns c ts =
-    let at-take-number = c.before.before.before in
-    let at-args = at-take-number.before.before.before in
-    leaf_stopped (at-take-number.take-number.ensures ts) (λ n. el at-args.args.typ (integer_bytes n))
-    (integer_spelled _) (not-true _ c.if1.true)
+    leaf_stopped (c.take_number-taken.ensures ts) (λ n. el c.args.typ (integer_bytes n))
+    (integer_spelled _) c.if-not-next.true
 
-returns-2 : tie.Need-returns-2
+returns-2 : tie.Need-returns
 returns-2 c ts =
-    let at-put-integer = c.before.before.before in
-    let at-if1 = at-put-integer.before.before in
-    let at-take-number = at-if1.before.before.before in
-    let at-args = at-take-number.before.before.before in
-    leaf_wrote (at-take-number.take-number.ensures ts) (λ n. el at-args.args.typ (integer_bytes n))
-    (integer_spelled _) (not-false _ at-if1.if1.false) c.moved.ensures
-    at-put-integer.put-integer.ensures.size_is at-put-integer.put-integer.ensures.put
+    leaf_wrote (c.take_number-taken.ensures ts) (λ n. el c.args.typ (integer_bytes n))
+    (integer_spelled _) c.if-not-next.false c.moved.ensures
+    c.put_integer-size.ensures.size_is c.put_integer-size.ensures.put
 
-pub write-integer-spec : {M : Type 1} → statement M
-write-integer-spec =
+pub write_integer_spec : {M : Type 1} → statement M
+write_integer_spec =
     tie.close
     (tie.spec
     (λ c κs. search rules)

@@ -10,29 +10,21 @@ use Rattle.lvs_write.proofs.Places.{both_taken}
 use Rattle.lvs_write.proofs.leaves.write_pair.Statement.{statement}
 use Rattle.lvs_write.proofs.leaves.write_pair.Tie as tie
 
-returns : tie.Need-returns
+returns : tie.Need-returns-then-not-next
 returns c ts =
-    let at-take-number2 = c.before.before.before in
-    let at-take-number = at-take-number2.before in
-    let at-args = at-take-number.before.before.before in
-    leaf_stopped (both_taken (at-take-number.take-number.ensures ts) (at-take-number2.take-number2.ensures ts))
-    (λ p. el at-args.args.a (integer_bytes p.0) ++ el at-args.args.b (integer_bytes p.1))
-    (pair_spelled _ _) (not-true _ c.if1.true)
+    leaf_stopped (both_taken (c.take_number-x.ensures ts) (c.take_number-y.ensures ts))
+    (λ p. el c.args.a (integer_bytes p.0) ++ el c.args.b (integer_bytes p.1))
+    (pair_spelled _ _) c.if-not-next.true
 
-returns-2 : tie.Need-returns-2
+returns-2 : tie.Need-returns
 returns-2 c ts =
-    let at-put-pair = c.before.before.before in
-    let at-if1 = at-put-pair.before.before in
-    let at-take-number2 = at-if1.before.before.before in
-    let at-take-number = at-take-number2.before in
-    let at-args = at-take-number.before.before.before in
-    leaf_wrote (both_taken (at-take-number.take-number.ensures ts) (at-take-number2.take-number2.ensures ts))
-    (λ p. el at-args.args.a (integer_bytes p.0) ++ el at-args.args.b (integer_bytes p.1))
-    (pair_spelled _ _) (not-false _ at-if1.if1.false) c.moved.ensures
-    at-put-pair.put-pair.ensures.size_is at-put-pair.put-pair.ensures.put
+    leaf_wrote (both_taken (c.take_number-x.ensures ts) (c.take_number-y.ensures ts))
+    (λ p. el c.args.a (integer_bytes p.0) ++ el c.args.b (integer_bytes p.1))
+    (pair_spelled _ _) c.if-not-next.false c.moved.ensures
+    c.put_pair-size.ensures.size_is c.put_pair-size.ensures.put
 
-pub write-pair-spec : {M : Type 1} → statement M
-write-pair-spec =
+pub write_pair_spec : {M : Type 1} → statement M
+write_pair_spec =
     tie.close
     (tie.spec
     (λ c κs. search rules)

@@ -7,24 +7,18 @@ use Rattle.lvs_write.proofs.Fronts.{text_spelled}
 use Rattle.lvs_write.proofs.leaves.write_text.Statement.{statement}
 use Rattle.lvs_write.proofs.leaves.write_text.Tie as tie
 
-returns : tie.Need-returns
+returns : tie.Need-returns-then-not-next
 returns c =
-    let at-take-text = c.before.before.before in
-    let at-args = at-take-text.before.before.before.before in
-    leaf_stopped at-take-text.take-text.ensures.taken (λ s. el at-args.args.typ s) (text_spelled _) (not-true _ c.if1.true)
+    leaf_stopped c.take_text-taken.ensures.taken (λ s. el c.args.typ s) (text_spelled _) c.if-not-next.true
 
-returns-2 : tie.Need-returns-2
+returns-2 : tie.Need-returns
 returns-2 c =
-    let at-put-text = c.before.before.before in
-    let at-if1 = at-put-text.before.before.before in
-    let at-take-text = at-if1.before.before.before in
-    let at-args = at-take-text.before.before.before.before in
-    leaf_wrote at-take-text.take-text.ensures.taken (λ s. el at-args.args.typ s)
-    (text_spelled _) (not-false _ at-if1.if1.false) c.moved.ensures
-    at-put-text.put-text.ensures.size_is at-put-text.put-text.ensures.put
+    leaf_wrote c.take_text-taken.ensures.taken (λ s. el c.args.typ s)
+    (text_spelled _) c.if-not-next.false c.moved.ensures
+    c.put_text-size.ensures.size_is c.put_text-size.ensures.put
 
-pub write-text-spec : {M : Type 1} → statement M
-write-text-spec =
+pub write_text_spec : {M : Type 1} → statement M
+write_text_spec =
     tie.close
     (tie.spec
     (λ c κs. search rules)

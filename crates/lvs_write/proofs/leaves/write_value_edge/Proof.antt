@@ -7,29 +7,21 @@ use Rattle.lvs_write.proofs.Places.{value_edge_taken}
 use Rattle.lvs_write.proofs.leaves.write_value_edge.Statement.{statement}
 use Rattle.lvs_write.proofs.leaves.write_value_edge.Tie as tie
 
-returns : tie.Need-returns
+returns : tie.Need-returns-then-not-next
 returns c =
-    let at-take-text = c.before.before.before in
-    let at-take-number2 = at-take-text.before in
-    let at-take-number = at-take-number2.before in
-    leaf_stopped (value_edge_taken _ _ at-take-number.take-number.ensures
-    at-take-number2.take-number2.ensures at-take-text.take-text.ensures)
-    value_edge_bytes value_edge_spelled (not-true _ c.if1.true)
+    leaf_stopped (value_edge_taken _ _ c.take_number-to.ensures
+    c.take_number-kind.ensures c.take_text-taken.ensures)
+    value_edge_bytes value_edge_spelled c.if-not-next.true
 
-returns-2 : tie.Need-returns-2
+returns-2 : tie.Need-returns
 returns-2 c =
-    let at-put-value-edge = c.before.before.before in
-    let at-if1 = at-put-value-edge.before.before.before in
-    let at-take-text = at-if1.before.before.before in
-    let at-take-number2 = at-take-text.before in
-    let at-take-number = at-take-number2.before in
-    leaf_wrote (value_edge_taken _ _ at-take-number.take-number.ensures
-    at-take-number2.take-number2.ensures at-take-text.take-text.ensures)
-    value_edge_bytes value_edge_spelled (not-false _ at-if1.if1.false) c.moved.ensures
-    at-put-value-edge.put-value-edge.ensures.size_is at-put-value-edge.put-value-edge.ensures.put
+    leaf_wrote (value_edge_taken _ _ c.take_number-to.ensures
+    c.take_number-kind.ensures c.take_text-taken.ensures)
+    value_edge_bytes value_edge_spelled c.if-not-next.false c.moved.ensures
+    c.put_value_edge-size.ensures.size_is c.put_value_edge-size.ensures.put
 
-pub write-value-edge-spec : {M : Type 1} → statement M
-write-value-edge-spec =
+pub write_value_edge_spec : {M : Type 1} → statement M
+write_value_edge_spec =
     tie.close
     (tie.spec
     (λ c κs. search rules)

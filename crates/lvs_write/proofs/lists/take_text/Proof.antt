@@ -4,17 +4,15 @@ use Rattle.lvs_write.proofs.Places.{text_long, text_taken}
 use Rattle.lvs_write.proofs.lists.take_text.Statement.{statement}
 use Rattle.lvs_write.proofs.lists.take_text.Tie as tie
 
-returns : tie.Need-returns
+returns : tie.Need-returns-then-left-n
 returns c =
-    let at_least_lem = c.before.before in
-    let at-take-number = at_least_lem.before.before in
-    text_long _ _ _ at-take-number.take-number.ensures at_least_lem.least.ensures (search rules) (search rules)
+    text_long _ _ _ c.take_number-taken.ensures c.least-start.ensures (search rules) (search rules)
 
-returns-2 : tie.Need-returns-2
-returns-2 c = text_taken _ _ _ c.before.before.before.take-number.ensures c.before.least.ensures (search rules)
+returns-2 : tie.Need-returns
+returns-2 c = text_taken _ _ _ c.take_number-taken.ensures c.least-start.ensures (search rules)
 
-pub take-text-spec : {M : Type 1} → statement M
-take-text-spec =
+pub take_text_spec : {M : Type 1} → statement M
+take_text_spec =
     tie.close
     (tie.spec
     (λ c κs. search rules)

@@ -733,9 +733,9 @@ write-nested-same-length-4 t c =
     let at_out = far-19.before in
     at-out3.out3.given.1 ∙ at-out2.out2.given ∙ at_out.out.given
 
-pub +attempt-write-call-write-inside-write-many-write-nested-write-node-write-part-write-pattern-edge-write-term-spec :
+pub +attempt_write_call_write_inside_write_many_write_nested_write_node_write_part_write_pattern_edge_write_term_spec :
     {M : Type 1} → statement M
-+attempt-write-call-write-inside-write-many-write-nested-write-node-write-part-write-pattern-edge-write-term-spec =
++attempt_write_call_write_inside_write_many_write_nested_write_node_write_part_write_pattern_edge_write_term_spec =
     close
     μ-attempt
     μ-write-call

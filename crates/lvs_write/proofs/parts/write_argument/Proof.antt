@@ -4,28 +4,20 @@ use Rattle.lvs_write.proofs.Containers.{argument_value, argument_tag, argument_o
 use Rattle.lvs_write.proofs.parts.write_argument.Statement.{statement}
 use Rattle.lvs_write.proofs.parts.write_argument.Tie as tie
 
-returns : tie.Need-returns
+returns : tie.Need-returns-in-0
 returns c =
-    let at-write-component = c.before.before in
-    let at-match = at-write-component.before.before in
-    let at-take-number = at-match.before.before in
-    argument_value at-take-number.take-number.ensures at-match.match.keys1 at-write-component.write-component.ensures
+    argument_value c.take_number-taken.ensures c.in-0.is c.write_component.ensures
 
-returns-2 : tie.Need-returns-2
+returns-2 : tie.Need-returns-in-1
 returns-2 c =
-    let at-write-integer = c.before.before in
-    let at-match = at-write-integer.before.before in
-    let at-take-number = at-match.before.before in
-    argument_tag at-take-number.take-number.ensures at-match.match.keys2 at-write-integer.write-integer.ensures
+    argument_tag c.take_number-taken.ensures c.in-1.is c.write_integer.ensures
 
-returns-3 : tie.Need-returns-3
+returns-3 : tie.Need-returns-in_default
 returns-3 c =
-    let at-match = c.before in
-    let at-take-number = at-match.before.before in
-    argument_other at-take-number.take-number.ensures at-match.match.rest.0.1 at-match.match.rest.1 c.stopped.ensures
+    argument_other c.take_number-taken.ensures c.in_default.in_default-own.rest.0.1 c.in_default.in_default-own.rest.1 c.stopped.ensures
 
-pub write-argument-spec : {M : Type 1} → statement M
-write-argument-spec =
+pub write_argument_spec : {M : Type 1} → statement M
+write_argument_spec =
     tie.close
     (tie.spec
     (λ c κs. search rules)

@@ -4,24 +4,19 @@ use Rattle.lvs_write.proofs.Containers.{parent_absent, parent_there, parent_othe
 use Rattle.lvs_write.proofs.parts.write_parent.Statement.{statement}
 use Rattle.lvs_write.proofs.parts.write_parent.Tie as tie
 
-returns : tie.Need-returns
-returns c = parent_absent c.before.before.take-number.ensures c.match.keys1
+returns : tie.Need-returns-in-0
+returns c = parent_absent c.take_number-taken.ensures c.in-0.is
 
-returns-2 : tie.Need-returns-2
+returns-2 : tie.Need-returns-in-1
 returns-2 c =
-    let at-write-integer = c.before.before in
-    let at-match = at-write-integer.before.before in
-    let at-take-number = at-match.before.before in
-    parent_there at-take-number.take-number.ensures at-match.match.keys2 at-write-integer.write-integer.ensures
+    parent_there c.take_number-taken.ensures c.in-1.is c.write_integer.ensures
 
-returns-3 : tie.Need-returns-3
+returns-3 : tie.Need-returns-in_default
 returns-3 c =
-    let at-match = c.before in
-    let at-take-number = at-match.before.before in
-    parent_other at-take-number.take-number.ensures at-match.match.rest.0.1 at-match.match.rest.1 c.stopped.ensures
+    parent_other c.take_number-taken.ensures c.in_default.in_default-own.rest.0.1 c.in_default.in_default-own.rest.1 c.stopped.ensures
 
-pub write-parent-spec : {M : Type 1} → statement M
-write-parent-spec =
+pub write_parent_spec : {M : Type 1} → statement M
+write_parent_spec =
     tie.close
     (tie.spec
     (λ c κs. search rules)

@@ -7,12 +7,10 @@ use Rattle.lvs_write.proofs.parts.write_symbol.Tie as tie
 
 returns : tie.Need-returns
 returns c =
-    let at-write-text = c.before.before in
-    let at-write-integer = at-write-text.before.before.before.before in
-    wrote_as symbol_parts (then_wrote (at-write-integer.write-integer.ensures _) at-write-text.write-text.ensures (search rules))
+    wrote_as symbol_parts (then_wrote (c.write_integer-tag.ensures _) c.write_text.ensures (search rules))
 
-pub write-symbol-spec : {M : Type 1} → statement M
-write-symbol-spec =
+pub write_symbol_spec : {M : Type 1} → statement M
+write_symbol_spec =
     tie.close
     (tie.spec
     (λ c κs. search rules)
