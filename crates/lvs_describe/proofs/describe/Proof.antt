@@ -7,19 +7,19 @@ use Rattle.lvs_describe.proofs.describe.Tie as tie
 
 returns : tie.Need-returns-then-not-rest
 returns c =
-    too_short _ _ _ c.put_model-rest.ensures c.if-not-rest.true
+    too_short _ _ _ c.put_model-rest.ensures (not-true _ c.if-not-rest.true)
 
 sub-t20 : tie.Need-overflow_sub-result
 sub-t20 c =
-    numbers_left c.put_model-rest.ensures c.if-not-rest.false
+    numbers_left c.put_model-rest.ensures (not-false _ c.if-not-rest.false)
 
 sub-t21 : tie.Need-overflow_sub-result-2
 sub-t21 c =
-    texts_left c.put_model-rest.ensures c.if-not-rest.false
+    texts_left c.put_model-rest.ensures (not-false _ c.if-not-rest.false)
 
 returns-2 : tie.Need-returns
 returns-2 c =
-    all_put _ _ _ c.put_model-rest.ensures c.if-not-rest.false c.put_model.ensures
+    all_put _ _ _ c.put_model-rest.ensures (not-false _ c.if-not-rest.false) c.put_model.ensures
 
 pub describe_spec : {M : Type 1} → statement M
 describe_spec =

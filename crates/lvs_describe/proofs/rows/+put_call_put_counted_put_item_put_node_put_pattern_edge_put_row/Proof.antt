@@ -283,10 +283,10 @@ put-node-returns t c =
     c.put_counted.ensures
 
 put-node-same-length : (t : ℕ) → put-node-need put-node-lts.Need-shape_of-numbers t
-put-node-same-length t c = (put-node-returns t c).numbers_are.auto
+put-node-same-length t c = (put-node-returns t c).numbers_are.kept
 
 put-node-same-length-2 : (t : ℕ) → put-node-need put-node-lts.Need-shape_of-texts t
-put-node-same-length-2 t c = (put-node-returns t c).texts_are.auto
+put-node-same-length-2 t c = (put-node-returns t c).texts_are.kept
 
 -- ---- put_pattern_edge
 
@@ -376,15 +376,15 @@ put-counted-part-put-item-end t c = omega (arith, step t c.before.before)
 
 put-counted-put-item-requires : (t : ℕ) → put-counted-need put-counted-lts.Need-put_item-rest-requires t
 put-counted-put-item-requires t c κs =
-    (simp (length-take, length-drop) (omega (arith, c.requires.0, step t turn)), tt)
+    (simp (length-take, length-drop) (omega (arith, c.requires.0, step t c.before.before.before.before.before)), tt)
 
 put-counted-loop-less : (t : ℕ) → put-counted-need put-counted-lts.Need-loop-typ-smaller-then-is_of t
 put-counted-loop-less t c =
-    omega (arith, step t item.before.before.before.before.before.before.before)
+    omega (arith, step t c.before.before.before.before.before.before.before.before.before.before)
 
 put-counted-loop-again : (t : ℕ) → put-counted-need put-counted-lts.Need-loop-typ-preserved-then-is_of t
 put-counted-loop-again t c =
-    walk_item c.loop-typ.invariant (item_found _ (step t turn) (sym c.is_of.ensures ∙ c.if-is_of.true))
+    walk_item c.loop-typ.invariant (item_found _ (step t c.before.before.before.before.before.before.before.before.before.before) (sym c.is_of.ensures ∙ c.if-is_of.true))
     c.put_item-rest.ensures
 
 put-counted-loop-less-2 : (t : ℕ) → put-counted-need put-counted-lts.Need-loop-typ-smaller t
@@ -392,7 +392,7 @@ put-counted-loop-less-2 t c = omega (arith, step t c.before.before)
 
 put-counted-loop-again-2 : (t : ℕ) → put-counted-need put-counted-lts.Need-loop-typ-preserved t
 put-counted-loop-again-2 t c =
-    walk_past c.loop-typ.invariant (item_other _ (step t turn) (sym c.is_of.ensures ∙ c.if-is_of.false))
+    walk_past c.loop-typ.invariant (item_other _ (step t c.before.before) (sym c.is_of.ensures ∙ c.if-is_of.false))
 
 put-counted-returns : (t : ℕ) → put-counted-need put-counted-lts.Need-returns-then-count-lt1 t
 put-counted-returns t c =

@@ -33,7 +33,7 @@ add-end : tie.Need-overflow_add-end
 add-end c =
     omega (
       arith,
-      c.well-formed,
+      c.well_formed,
       c.out-1.given,
       inside_fits _ _ _
           c.element_size-size.ensures c.has_room.ensures

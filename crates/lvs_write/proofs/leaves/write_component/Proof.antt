@@ -13,13 +13,13 @@ returns : tie.Need-returns-then-not-next
 returns c =
     leaf_stopped (component_taken _ _ c.take_number-kind.ensures c.take_text-taken.ensures)
     (λ e. el type.Value (el e.type e.inside)) (component_spelled _)
-    c.if-not-next.true
+    (not-true _ c.if-not-next.true)
 
 returns-2 : tie.Need-returns
 returns-2 c =
     leaf_wrote (component_taken _ _ c.take_number-kind.ensures c.take_text-taken.ensures)
     (λ e. el type.Value (el e.type e.inside)) (component_spelled _)
-    c.if-not-next.false c.moved.ensures c.put_component-size.ensures.size_is
+    (not-false _ c.if-not-next.false) c.moved.ensures c.put_component-size.ensures.size_is
     c.put_component-size.ensures.put
 
 pub write_component_spec : {M : Type 1} → statement M

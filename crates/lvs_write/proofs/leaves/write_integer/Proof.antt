@@ -11,12 +11,12 @@ use Rattle.lvs_write.proofs.leaves.write_integer.Tie as tie
 returns : tie.Need-returns-then-not-next
 returns c ts =
     leaf_stopped (c.take_number-taken.ensures ts) (λ n. el c.args.typ (integer_bytes n))
-    (integer_spelled _) c.if-not-next.true
+    (integer_spelled _) (not-true _ c.if-not-next.true)
 
 returns-2 : tie.Need-returns
 returns-2 c ts =
     leaf_wrote (c.take_number-taken.ensures ts) (λ n. el c.args.typ (integer_bytes n))
-    (integer_spelled _) c.if-not-next.false c.moved.ensures
+    (integer_spelled _) (not-false _ c.if-not-next.false) c.moved.ensures
     c.put_integer-size.ensures.size_is c.put_integer-size.ensures.put
 
 pub write_integer_spec : {M : Type 1} → statement M

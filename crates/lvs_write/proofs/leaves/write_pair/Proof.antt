@@ -14,13 +14,13 @@ returns : tie.Need-returns-then-not-next
 returns c ts =
     leaf_stopped (both_taken (c.take_number-x.ensures ts) (c.take_number-y.ensures ts))
     (λ p. el c.args.a (integer_bytes p.0) ++ el c.args.b (integer_bytes p.1))
-    (pair_spelled _ _) c.if-not-next.true
+    (pair_spelled _ _) (not-true _ c.if-not-next.true)
 
 returns-2 : tie.Need-returns
 returns-2 c ts =
     leaf_wrote (both_taken (c.take_number-x.ensures ts) (c.take_number-y.ensures ts))
     (λ p. el c.args.a (integer_bytes p.0) ++ el c.args.b (integer_bytes p.1))
-    (pair_spelled _ _) c.if-not-next.false c.moved.ensures
+    (pair_spelled _ _) (not-false _ c.if-not-next.false) c.moved.ensures
     c.put_pair-size.ensures.size_is c.put_pair-size.ensures.put
 
 pub write_pair_spec : {M : Type 1} → statement M

@@ -9,12 +9,12 @@ use Rattle.lvs_write.proofs.leaves.write_text.Tie as tie
 
 returns : tie.Need-returns-then-not-next
 returns c =
-    leaf_stopped c.take_text-taken.ensures.taken (λ s. el c.args.typ s) (text_spelled _) c.if-not-next.true
+    leaf_stopped c.take_text-taken.ensures.taken (λ s. el c.args.typ s) (text_spelled _) (not-true _ c.if-not-next.true)
 
 returns-2 : tie.Need-returns
 returns-2 c =
     leaf_wrote c.take_text-taken.ensures.taken (λ s. el c.args.typ s)
-    (text_spelled _) c.if-not-next.false c.moved.ensures
+    (text_spelled _) (not-false _ c.if-not-next.false) c.moved.ensures
     c.put_text-size.ensures.size_is c.put_text-size.ensures.put
 
 pub write_text_spec : {M : Type 1} → statement M

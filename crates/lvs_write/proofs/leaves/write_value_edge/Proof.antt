@@ -11,13 +11,13 @@ returns : tie.Need-returns-then-not-next
 returns c =
     leaf_stopped (value_edge_taken _ _ c.take_number-to.ensures
     c.take_number-kind.ensures c.take_text-taken.ensures)
-    value_edge_bytes value_edge_spelled c.if-not-next.true
+    value_edge_bytes value_edge_spelled (not-true _ c.if-not-next.true)
 
 returns-2 : tie.Need-returns
 returns-2 c =
     leaf_wrote (value_edge_taken _ _ c.take_number-to.ensures
     c.take_number-kind.ensures c.take_text-taken.ensures)
-    value_edge_bytes value_edge_spelled c.if-not-next.false c.moved.ensures
+    value_edge_bytes value_edge_spelled (not-false _ c.if-not-next.false) c.moved.ensures
     c.put_value_edge-size.ensures.size_is c.put_value_edge-size.ensures.put
 
 pub write_value_edge_spec : {M : Type 1} → statement M

@@ -52,6 +52,15 @@ use Rattle.lvs_write.proofs.parts.type_of.Reads as type-of-reads
 use Rattle.lvs_write.proofs.parts.write_argument.Reads as write-argument-reads
 use Rattle.lvs_write.proofs.parts.write_parent.Reads as write-parent-reads
 use Rattle.lvs_write.proofs.parts.write_symbol.Reads as write-symbol-reads
+use Rattle.lvs_write.proofs.parts.+attempt_write_call_write_inside_write_many_write_nested_write_node_write_part_write_pattern_edge_write_term.Lts-attempt as attempt-lts
+use Rattle.lvs_write.proofs.parts.+attempt_write_call_write_inside_write_many_write_nested_write_node_write_part_write_pattern_edge_write_term.Lts-write_call as write-call-lts
+use Rattle.lvs_write.proofs.parts.+attempt_write_call_write_inside_write_many_write_nested_write_node_write_part_write_pattern_edge_write_term.Lts-write_inside as write-inside-lts
+use Rattle.lvs_write.proofs.parts.+attempt_write_call_write_inside_write_many_write_nested_write_node_write_part_write_pattern_edge_write_term.Lts-write_many as write-many-lts
+use Rattle.lvs_write.proofs.parts.+attempt_write_call_write_inside_write_many_write_nested_write_node_write_part_write_pattern_edge_write_term.Lts-write_nested as write-nested-lts
+use Rattle.lvs_write.proofs.parts.+attempt_write_call_write_inside_write_many_write_nested_write_node_write_part_write_pattern_edge_write_term.Lts-write_node as write-node-lts
+use Rattle.lvs_write.proofs.parts.+attempt_write_call_write_inside_write_many_write_nested_write_node_write_part_write_pattern_edge_write_term.Lts-write_part as write-part-lts
+use Rattle.lvs_write.proofs.parts.+attempt_write_call_write_inside_write_many_write_nested_write_node_write_part_write_pattern_edge_write_term.Lts-write_pattern_edge as write-pattern-edge-lts
+use Rattle.lvs_write.proofs.parts.+attempt_write_call_write_inside_write_many_write_nested_write_node_write_part_write_pattern_edge_write_term.Lts-write_term as write-term-lts
 use Rattle.lvs_write.proofs.parts.+attempt_write_call_write_inside_write_many_write_nested_write_node_write_part_write_pattern_edge_write_term as cycle
 use Rattle.lvs_write.proofs.parts.+attempt_write_call_write_inside_write_many_write_nested_write_node_write_part_write_pattern_edge_write_term.{
   statement,
@@ -87,11 +96,11 @@ abbrev μ-write-pattern-edge : Measures 3 write-pattern-edge-kinds.ps ℕ
 abbrev μ-write-term : Measures 3 write-term-kinds.ps ℕ
 μ-write-term κs a = 13
 
-abbrev write-many-Inv-loop : cycle.Lts-write_many.invariant-loop
+abbrev write-many-Inv-loop : write-many-lts.invariant-loop-left
 write-many-Inv-loop part numbers texts out₀ left₀ c₀ out left c =
     Running (part_from part) numbers texts out₀ c₀ left₀ out c left
 
-abbrev write-many-μ-loop : cycle.Lts-write_many.decreases-loop
+abbrev write-many-μ-loop : write-many-lts.decreases-loop-left
 write-many-μ-loop part numbers texts out₀ left₀ c₀ out left c = left
 
 abbrev attempt-at : ℕ → In 3 attempt-kinds.ps
@@ -180,7 +189,7 @@ abbrev write-term-below : ℕ → In 3 write-term-kinds.ps
 write-term-below t =
     and 3 write-term-kinds.ps (falls 3 write-term-kinds.ps ◌<◌ μ-write-term t) write-term.Pre
 
-abbrev attempt-calls : ℕ → cycle.Lts-attempt.Claims
+abbrev attempt-calls : ℕ → attempt-lts.Claims
 attempt-calls t = (
   add_reads.Asked,
   add_reads.Learnt,
@@ -192,7 +201,7 @@ attempt-calls t = (
   write-inside.Post,
 )
 
-abbrev write-call-calls : ℕ → cycle.Lts-write_call.Claims
+abbrev write-call-calls : ℕ → write-call-lts.Claims
 write-call-calls t = (
   write-text-reads.Asked,
   write-text-reads.Learnt,
@@ -200,7 +209,7 @@ write-call-calls t = (
   write-many.Post,
 )
 
-abbrev write-inside-calls : ℕ → cycle.Lts-write_inside.Claims
+abbrev write-inside-calls : ℕ → write-inside-lts.Claims
 write-inside-calls t = (
   write-node-below t,
   write-node.Post,
@@ -216,7 +225,7 @@ write-inside-calls t = (
   write-argument-reads.Learnt,
 )
 
-abbrev write-many-calls : ℕ → cycle.Lts-write_many.Claims
+abbrev write-many-calls : ℕ → write-many-lts.Claims
 write-many-calls t = (
   take-number-reads.Asked,
   take-number-reads.Learnt,
@@ -224,7 +233,7 @@ write-many-calls t = (
   write-part.Post,
 )
 
-abbrev write-nested-calls : ℕ → cycle.Lts-write_nested.Claims
+abbrev write-nested-calls : ℕ → write-nested-lts.Claims
 write-nested-calls t = (
   attempt-below t,
   attempt.Post,
@@ -248,7 +257,7 @@ write-nested-calls t = (
   write-inside.Post,
 )
 
-abbrev write-node-calls : ℕ → cycle.Lts-write_node.Claims
+abbrev write-node-calls : ℕ → write-node-lts.Claims
 write-node-calls t = (
   write-integer-reads.Asked,
   write-integer-reads.Learnt,
@@ -258,7 +267,7 @@ write-node-calls t = (
   write-many.Post,
 )
 
-abbrev write-part-calls : ℕ → cycle.Lts-write_part.Claims
+abbrev write-part-calls : ℕ → write-part-lts.Claims
 write-part-calls t = (
   write-text-reads.Asked,
   write-text-reads.Learnt,
@@ -272,7 +281,7 @@ write-part-calls t = (
   write-nested.Post,
 )
 
-abbrev write-pattern-edge-calls : ℕ → cycle.Lts-write_pattern_edge.Claims
+abbrev write-pattern-edge-calls : ℕ → write-pattern-edge-lts.Claims
 write-pattern-edge-calls t = (
   write-pair-reads.Asked,
   write-pair-reads.Learnt,
@@ -280,7 +289,7 @@ write-pattern-edge-calls t = (
   write-many.Post,
 )
 
-abbrev write-term-calls : ℕ → cycle.Lts-write_term.Claims
+abbrev write-term-calls : ℕ → write-term-lts.Claims
 write-term-calls t = (
   take-number-reads.Asked,
   take-number-reads.Learnt,
@@ -294,444 +303,277 @@ write-term-calls t = (
   stopped-reads.Learnt,
 )
 
-write-call-write-many-requires : (t : ℕ) → cycle.Lts-write_call.Need-write-many-requires (write-call-calls t) (write-call-at t) write-call.Post
+write-call-write-many-requires : (t : ℕ) → write-call-lts.Need-write_many-requires (write-call-calls t) (write-call-at t) write-call.Post
 write-call-write-many-requires t c κs =
-    let at_before = c.before.before.before.before.before.before in
-    let at_before = at_before.before in
-    let at_pre = at_before.before in
-    (omega (arith, at_pre.requires.0), tt)
+    (omega (arith, c.requires.0), tt)
 
-write-call-returns : (t : ℕ) → cycle.Lts-write_call.Need-returns (write-call-calls t) (write-call-at t) write-call.Post
+write-call-returns : (t : ℕ) → write-call-lts.Need-returns (write-call-calls t) (write-call-at t) write-call.Post
 write-call-returns t c =
-    let at-write-many = c.before.before in
-    let at-write-text = at-write-many.before.before.before.before in
-    wrote_as parts.call_parts (then_wrote at-write-text.write-text.ensures at-write-many.write-many.ensures (search rules))
+    wrote_as parts.call_parts (then_wrote c.write_text-function.ensures c.write_many.ensures (search rules))
 
 write-inside-write-node-requires : (t : ℕ)
-    → cycle.Lts-write_inside.Need-write-node-requires (write-inside-calls t) (write-inside-at t) write-inside.Post
+    → write-inside-lts.Need-write_node-requires (write-inside-calls t) (write-inside-at t) write-inside.Post
 write-inside-write-node-requires t c κs =
-    let at-enum-told = c.before in
-    let at_pre = at-enum-told.before.before.before.before.before in
-    (omega (arith, at_pre.requires.0, ap height at-enum-told.enum_told.given.1), tt)
+    (omega (arith, c.requires.0, ap height c.in-Node.is), tt)
 
 write-inside-write-pattern-edge-requires : (t : ℕ)
-    → cycle.Lts-write_inside.Need-write-pattern-edge-requires (write-inside-calls t) (write-inside-at t) write-inside.Post
+    → write-inside-lts.Need-write_pattern_edge-requires (write-inside-calls t) (write-inside-at t) write-inside.Post
 write-inside-write-pattern-edge-requires t c κs =
-    let at-enum-told3 = c.before in
-    let at_pre = at-enum-told3.before.before.before.before.before in
-    (omega (arith, at_pre.requires.0, ap height at-enum-told3.enum-told3.given.1), tt)
+    (omega (arith, c.requires.0, ap height c.in-PatternEdge.is), tt)
 
 write-inside-write-many-requires : (t : ℕ)
-    → cycle.Lts-write_inside.Need-write-many-requires (write-inside-calls t) (write-inside-at t) write-inside.Post
+    → write-inside-lts.Need-write_many-requires (write-inside-calls t) (write-inside-at t) write-inside.Post
 write-inside-write-many-requires t c κs =
-    let at-enum-told4 = c.before in
-    let at_pre = at-enum-told4.before.before.before.before.before in
-    (omega (arith, at_pre.requires.0, ap height at-enum-told4.enum-told4.given.1), tt)
+    (omega (arith, c.requires.0, ap height c.in-Constraint.is), tt)
 
 write-inside-write-many-requires-2 : (t : ℕ)
-    → cycle.Lts-write_inside.Need-write-many-requires-2 (write-inside-calls t) (write-inside-at t) write-inside.Post
+    → write-inside-lts.Need-write_many-requires-in-ConstraintOption (write-inside-calls t) (write-inside-at t) write-inside.Post
 write-inside-write-many-requires-2 t c κs =
-    let at-enum-told5 = c.before in
-    let at_pre = at-enum-told5.before.before.before.before.before in
-    (omega (arith, at_pre.requires.0, ap height at-enum-told5.enum-told5.given.1), tt)
+    (omega (arith, c.requires.0, ap height c.in-ConstraintOption.is), tt)
 
 write-inside-write-call-requires : (t : ℕ)
-    → cycle.Lts-write_inside.Need-write-call-requires (write-inside-calls t) (write-inside-at t) write-inside.Post
+    → write-inside-lts.Need-write_call-requires (write-inside-calls t) (write-inside-at t) write-inside.Post
 write-inside-write-call-requires t c κs =
-    let at-enum-told6 = c.before in
-    let at_pre = at-enum-told6.before.before.before.before.before in
-    (omega (arith, at_pre.requires.0, ap height at-enum-told6.enum-told6.given.1), tt)
+    (omega (arith, c.requires.0, ap height c.in-Call.is), tt)
 
-write-inside-returns : (t : ℕ) → cycle.Lts-write_inside.Need-returns (write-inside-calls t) (write-inside-at t) write-inside.Post
+write-inside-returns : (t : ℕ) → write-inside-lts.Need-returns-in-Node (write-inside-calls t) (write-inside-at t) write-inside.Post
 write-inside-returns t c =
-    let at-write-node = c.before.before in
-    let at-enum-told = at-write-node.before.before in
-    parts.by_container at-enum-told.enum_told.given.1 parts.node_inside at-write-node.write-node.ensures
+    parts.by_container c.in-Node.is parts.node_inside c.write_node.ensures
 
-write-inside-returns-2 : (t : ℕ) → cycle.Lts-write_inside.Need-returns-2 (write-inside-calls t) (write-inside-at t) write-inside.Post
+write-inside-returns-2 : (t : ℕ) → write-inside-lts.Need-returns-in-Symbol (write-inside-calls t) (write-inside-at t) write-inside.Post
 write-inside-returns-2 t c =
-    let at-write-symbol = c.before.before in
-    let at-enum-told2 = at-write-symbol.before.before in
-    parts.by_container at-enum-told2.enum-told2.given.1 parts.symbol_inside at-write-symbol.write_symbol.ensures
+    parts.by_container c.in-Symbol.is parts.symbol_inside c.write_symbol.ensures
 
-write-inside-returns-3 : (t : ℕ) → cycle.Lts-write_inside.Need-returns-3 (write-inside-calls t) (write-inside-at t) write-inside.Post
+write-inside-returns-3 : (t : ℕ) → write-inside-lts.Need-returns-in-PatternEdge (write-inside-calls t) (write-inside-at t) write-inside.Post
 write-inside-returns-3 t c =
-    let at-write-pattern-edge = c.before.before in
-    let at-enum-told3 = at-write-pattern-edge.before.before in
-    parts.by_container at-enum-told3.enum-told3.given.1 parts.pattern_edge_inside at-write-pattern-edge.write-pattern-edge.ensures
+    parts.by_container c.in-PatternEdge.is parts.pattern_edge_inside c.write_pattern_edge.ensures
 
-write-inside-returns-4 : (t : ℕ) → cycle.Lts-write_inside.Need-returns-4 (write-inside-calls t) (write-inside-at t) write-inside.Post
+write-inside-returns-4 : (t : ℕ) → write-inside-lts.Need-returns-in-Constraint (write-inside-calls t) (write-inside-at t) write-inside.Post
 write-inside-returns-4 t c =
-    let at-write-many = c.before.before in
-    let at-enum-told4 = at-write-many.before.before in
-    parts.by_container at-enum-told4.enum-told4.given.1 parts.constraint_inside at-write-many.write-many.ensures
+    parts.by_container c.in-Constraint.is parts.constraint_inside c.write_many.ensures
 
-write-inside-returns-5 : (t : ℕ) → cycle.Lts-write_inside.Need-returns-5 (write-inside-calls t) (write-inside-at t) write-inside.Post
+write-inside-returns-5 : (t : ℕ) → write-inside-lts.Need-returns-in-ConstraintOption (write-inside-calls t) (write-inside-at t) write-inside.Post
 write-inside-returns-5 t c =
-    let at-write-many2 = c.before.before in
-    let at-enum-told5 = at-write-many2.before.before in
-    parts.by_container at-enum-told5.enum-told5.given.1 parts.option_inside at-write-many2.write-many2.ensures
+    parts.by_container c.in-ConstraintOption.is parts.option_inside c.write_many-in-ConstraintOption.ensures
 
-write-inside-returns-6 : (t : ℕ) → cycle.Lts-write_inside.Need-returns-6 (write-inside-calls t) (write-inside-at t) write-inside.Post
+write-inside-returns-6 : (t : ℕ) → write-inside-lts.Need-returns-in-Call (write-inside-calls t) (write-inside-at t) write-inside.Post
 write-inside-returns-6 t c =
-    let at-write-call = c.before.before in
-    let at-enum-told6 = at-write-call.before.before in
-    parts.by_container at-enum-told6.enum-told6.given.1 parts.call_inside at-write-call.write-call.ensures
+    parts.by_container c.in-Call.is parts.call_inside c.write_call.ensures
 
-write-inside-returns-7 : (t : ℕ) → cycle.Lts-write_inside.Need-returns-7 (write-inside-calls t) (write-inside-at t) write-inside.Post
+write-inside-returns-7 : (t : ℕ) → write-inside-lts.Need-returns-in-Argument (write-inside-calls t) (write-inside-at t) write-inside.Post
 write-inside-returns-7 t c =
-    let at-write-argument = c.before.before in
-    let at-enum-told7 = at-write-argument.before.before in
-    parts.by_container at-enum-told7.enum-told7.given.1 parts.argument_inside at-write-argument.write-argument.ensures
+    parts.by_container c.in-Argument.is parts.argument_inside c.write_argument.ensures
 
 write-many-loop-holds : (t : ℕ)
-    → cycle.Lts-write_many.Need-loop-holds (write-many-calls t) (write-many-at t) write-many.Post write-many-Inv-loop write-many-μ-loop
+    → write-many-lts.Need-loop-left-init (write-many-calls t) (write-many-at t) write-many.Post write-many-Inv-loop write-many-μ-loop
 write-many-loop-holds t c = running_first _ _ _ _ _ _
 
 write-many-write-part-requires : (t : ℕ)
-    → cycle.Lts-write_many.Need-write-part-requires (write-many-calls t) (write-many-at t) write-many.Post write-many-Inv-loop write-many-μ-loop
+    → write-many-lts.Need-write_part-c-requires (write-many-calls t) (write-many-at t) write-many.Post write-many-Inv-loop write-many-μ-loop
 write-many-write-part-requires t c κs =
-    let at_before = c.before.before.before.before.before.before.before.before in
-    let at_before = at_before.before in
-    let at_pre = at_before.before in
-    (omega (arith, at_pre.requires.0), tt)
+    (omega (arith, c.requires.0), tt)
 
 write-many-loop-again : (t : ℕ)
-    → cycle.Lts-write_many.Need-loop-again (write-many-calls t) (write-many-at t) write-many.Post write-many-Inv-loop write-many-μ-loop
+    → write-many-lts.Need-loop-left-preserved (write-many-calls t) (write-many-at t) write-many.Post write-many-Inv-loop write-many-μ-loop
 write-many-loop-again t c =
-    let at-write-part = c.before.before in
-    let at-loop-test = at-write-part.before.before.before.before in
-    let at-loop = at-loop-test.before in
-    running_next _ at-loop.loop.invariant at-loop-test.loop-test.true at-write-part.write-part.ensures (search rules)
+    running_next _ c.loop-left.invariant c.loop-left-test.true c.write_part-c.ensures (search rules)
 
 write-many-returns : (t : ℕ)
-    → cycle.Lts-write_many.Need-returns (write-many-calls t) (write-many-at t) write-many.Post write-many-Inv-loop write-many-μ-loop
+    → write-many-lts.Need-returns-then-not-c (write-many-calls t) (write-many-at t) write-many.Post write-many-Inv-loop write-many-μ-loop
 write-many-returns t c =
-    let at-loop = c.before.before.before in
-    let at-take-number = at-loop.before.before in
-    counted_wrote _ (at-take-number.take-number.ensures _) (running_stopped _ at-loop.loop.invariant (not-true _ c.if1.true))
+    counted_wrote _ (c.take_number-taken.ensures _) (running_stopped _ c.loop-left.invariant (not-true _ c.if-not-c.true))
 
 write-many-returns-2 : (t : ℕ)
-    → cycle.Lts-write_many.Need-returns-2 (write-many-calls t) (write-many-at t) write-many.Post write-many-Inv-loop write-many-μ-loop
+    → write-many-lts.Need-returns (write-many-calls t) (write-many-at t) write-many.Post write-many-Inv-loop write-many-μ-loop
 write-many-returns-2 t c =
-    let at-loop = c.before in
-    let at-take-number = at-loop.before.before in
-    counted_wrote _ (at-take-number.take-number.ensures _) (running_last _ at-loop.loop.invariant c.loop-test.false)
+    counted_wrote _ (c.take_number-taken.ensures _) (running_last _ c.loop-left.invariant c.loop-left-test.false)
 
-write-node-write-many-requires : (t : ℕ) → cycle.Lts-write_node.Need-write-many-requires (write-node-calls t) (write-node-at t) write-node.Post
+write-node-write-many-requires : (t : ℕ) → write-node-lts.Need-write_many-names-requires (write-node-calls t) (write-node-at t) write-node.Post
 write-node-write-many-requires t c κs =
-    let at_before = c.before.before.before.before.before.before.before.before.before.before in
-    let at_before = at_before.before in
-    let at_pre = at_before.before in
-    (omega (arith, at_pre.requires.0), tt)
+    (omega (arith, c.requires.0), tt)
 
-write-node-write-many-requires-2 : (t : ℕ) → cycle.Lts-write_node.Need-write-many-requires-2 (write-node-calls t) (write-node-at t) write-node.Post
+write-node-write-many-requires-2 : (t : ℕ) → write-node-lts.Need-write_many-values-requires (write-node-calls t) (write-node-at t) write-node.Post
 write-node-write-many-requires-2 t c κs =
-    let at_before = c.before.before.before.before.before.before.before.before.before.before in
-    let at_before = at_before.before in
-    let far-12 = at_before.before in
-    let at_pre = far-12.before.before.before.before in
-    (omega (arith, at_pre.requires.0), tt)
+    (omega (arith, c.requires.0), tt)
 
-write-node-write-many-requires-3 : (t : ℕ) → cycle.Lts-write_node.Need-write-many-requires-3 (write-node-calls t) (write-node-at t) write-node.Post
+write-node-write-many-requires-3 : (t : ℕ) → write-node-lts.Need-write_many-patterns-requires (write-node-calls t) (write-node-at t) write-node.Post
 write-node-write-many-requires-3 t c κs =
-    let at_before = c.before.before.before.before.before.before.before.before.before.before in
-    let at_before = at_before.before in
-    let far-12 = at_before.before in
-    let at_pre = far-12.before.before.before.before.before.before.before.before in
-    (omega (arith, at_pre.requires.0), tt)
+    (omega (arith, c.requires.0), tt)
 
-write-node-write-many-requires-4 : (t : ℕ) → cycle.Lts-write_node.Need-write-many-requires-4 (write-node-calls t) (write-node-at t) write-node.Post
+write-node-write-many-requires-4 : (t : ℕ) → write-node-lts.Need-write_many-requires (write-node-calls t) (write-node-at t) write-node.Post
 write-node-write-many-requires-4 t c κs =
-    let at_before = c.before.before.before.before.before.before.before.before.before.before in
-    let at_before = at_before.before in
-    let far-12 = at_before.before in
-    let at_pre = far-12.before.before.before.before.before.before.before.before.before.before.before.before in
-    (omega (arith, at_pre.requires.0), tt)
+    (omega (arith, c.requires.0), tt)
 
-write-node-returns : (t : ℕ) → cycle.Lts-write_node.Need-returns (write-node-calls t) (write-node-at t) write-node.Post
+write-node-returns : (t : ℕ) → write-node-lts.Need-returns (write-node-calls t) (write-node-at t) write-node.Post
 write-node-returns t c =
-    let at-write-many4 = c.before.before in
-    let at-out5 = at-write-many4.before.before.before in
-    let at-write-many3 = at-out5.before in
-    let at-out4 = at-write-many3.before.before.before in
-    let at-write-many2 = at-out4.before in
-    let at-out3 = at-write-many2.before.before.before in
-    let at-write-many = at-out3.before in
-    let at-out2 = at-write-many.before.before.before in
-    let at-write-parent = at-out2.before in
-    let at_out = at-write-parent.before.before.before in
-    let at-write-integer = at_out.before in
     wrote_as parts.node_parts
-    (then_wrote (at-write-integer.write-integer.ensures _)
-    (then_wrote (at-write-parent.write-parent.ensures _)
-    (then_wrote at-write-many.write-many.ensures
-    (then_wrote at-write-many2.write-many2.ensures
-    (then_wrote at-write-many3.write-many3.ensures at-write-many4.write-many4.ensures at-out5.out5.given)
-    at-out4.out4.given)
-    at-out3.out3.given)
-    at-out2.out2.given)
-    at_out.out.given)
+    (then_wrote (c.write_integer-id.ensures _)
+    (then_wrote (c.write_parent-parent.ensures _)
+    (then_wrote c.write_many-names.ensures
+    (then_wrote c.write_many-values.ensures
+    (then_wrote c.write_many-patterns.ensures c.write_many.ensures c.out-5-1.given)
+    c.out-4-1.given)
+    c.out-3-1.given)
+    c.out-2-1.given)
+    c.out-1.given)
 
-write-part-write-term-requires : (t : ℕ) → cycle.Lts-write_part.Need-write-term-requires (write-part-calls t) (write-part-at t) write-part.Post
+write-part-write-term-requires : (t : ℕ) → write-part-lts.Need-write_term-requires (write-part-calls t) (write-part-at t) write-part.Post
 write-part-write-term-requires t c κs =
-    let at-enum-told3 = c.before in
-    let at_pre = at-enum-told3.before.before.before.before.before in
-    (omega (arith, at_pre.requires.0, ap weight at-enum-told3.enum-told3.given.1), tt)
+    (omega (arith, c.requires.0, ap weight c.in-Term.is), tt)
 
-write-part-write-nested-requires : (t : ℕ) → cycle.Lts-write_part.Need-write-nested-requires (write-part-calls t) (write-part-at t) write-part.Post
+write-part-write-nested-requires : (t : ℕ) → write-part-lts.Need-write_nested-requires (write-part-calls t) (write-part-at t) write-part.Post
 write-part-write-nested-requires t c κs =
-    let at_part = c.before.before in
-    let at_pre = at_part.before.before.before.before.before in
-    (omega (arith, at_pre.requires.0, ap weight at_part.part.given.1), tt)
+    (omega (arith, c.requires.0, ap weight c.in-Nested.is), tt)
 
-write-part-returns : (t : ℕ) → cycle.Lts-write_part.Need-returns (write-part-calls t) (write-part-at t) write-part.Post
+write-part-returns : (t : ℕ) → write-part-lts.Need-returns-in-RuleName (write-part-calls t) (write-part-at t) write-part.Post
 write-part-returns t c =
-    let at-write-text = c.before.before in
-    let at-enum-told = at-write-text.before.before in
-    parts.by_part at-enum-told.enum_told.given.1 parts.rule_name_written at-write-text.write-text.ensures
+    parts.by_part c.in-RuleName.is parts.rule_name_written c.write_text.ensures
 
-write-part-returns-2 : (t : ℕ) → cycle.Lts-write_part.Need-returns-2 (write-part-calls t) (write-part-at t) write-part.Post
+write-part-returns-2 : (t : ℕ) → write-part-lts.Need-returns-in-Signer (write-part-calls t) (write-part-at t) write-part.Post
 write-part-returns-2 t c =
-    let at-write-integer = c.before.before in
-    let at-enum-told2 = at-write-integer.before.before in
-    parts.by_part at-enum-told2.enum-told2.given.1 parts.signer_written (at-write-integer.write-integer.ensures _)
+    parts.by_part c.in-Signer.is parts.signer_written (c.write_integer.ensures _)
 
-write-part-returns-3 : (t : ℕ) → cycle.Lts-write_part.Need-returns-3 (write-part-calls t) (write-part-at t) write-part.Post
+write-part-returns-3 : (t : ℕ) → write-part-lts.Need-returns-in-Term (write-part-calls t) (write-part-at t) write-part.Post
 write-part-returns-3 t c =
-    let at-write-term = c.before.before in
-    let at-enum-told3 = at-write-term.before.before in
-    parts.by_part at-enum-told3.enum-told3.given.1 parts.term_written at-write-term.write-term.ensures
+    parts.by_part c.in-Term.is parts.term_written c.write_term.ensures
 
-write-part-returns-4 : (t : ℕ) → cycle.Lts-write_part.Need-returns-4 (write-part-calls t) (write-part-at t) write-part.Post
+write-part-returns-4 : (t : ℕ) → write-part-lts.Need-returns-in-ValueEdge (write-part-calls t) (write-part-at t) write-part.Post
 write-part-returns-4 t c =
-    let at-write-value-edge = c.before.before in
-    let at-enum-told4 = at-write-value-edge.before.before in
-    parts.by_part at-enum-told4.enum-told4.given.1 parts.value_edge_written at-write-value-edge.write-value-edge.ensures
+    parts.by_part c.in-ValueEdge.is parts.value_edge_written c.write_value_edge.ensures
 
-write-part-returns-5 : (t : ℕ) → cycle.Lts-write_part.Need-returns-5 (write-part-calls t) (write-part-at t) write-part.Post
+write-part-returns-5 : (t : ℕ) → write-part-lts.Need-returns-in-Nested (write-part-calls t) (write-part-at t) write-part.Post
 write-part-returns-5 t c =
-    let at-write-nested = c.before.before in
-    let at_part = at-write-nested.before.before.before in
-    parts.by_part at_part.part.given.1 (parts.nested_written _) at-write-nested.write-nested.ensures
+    parts.by_part c.in-Nested.is (parts.nested_written _) c.write_nested.ensures
 
 write-pattern-edge-write-many-requires : (t : ℕ)
-    → cycle.Lts-write_pattern_edge.Need-write-many-requires (write-pattern-edge-calls t) (write-pattern-edge-at t) write-pattern-edge.Post
+    → write-pattern-edge-lts.Need-write_many-requires (write-pattern-edge-calls t) (write-pattern-edge-at t) write-pattern-edge.Post
 write-pattern-edge-write-many-requires t c κs =
-    let at_before = c.before.before.before.before.before.before in
-    let at_before = at_before.before in
-    let at_pre = at_before.before in
-    (omega (arith, at_pre.requires.0), tt)
+    (omega (arith, c.requires.0), tt)
 
 write-pattern-edge-returns : (t : ℕ)
-    → cycle.Lts-write_pattern_edge.Need-returns (write-pattern-edge-calls t) (write-pattern-edge-at t) write-pattern-edge.Post
+    → write-pattern-edge-lts.Need-returns (write-pattern-edge-calls t) (write-pattern-edge-at t) write-pattern-edge.Post
 write-pattern-edge-returns t c =
-    let at-write-many = c.before.before in
-    let at-write-pair = at-write-many.before.before.before.before in
-    wrote_as parts.pattern_edge_parts (then_wrote (at-write-pair.write-pair.ensures _) at-write-many.write-many.ensures (search rules))
+    wrote_as parts.pattern_edge_parts (then_wrote (c.write_pair-tag.ensures _) c.write_many.ensures (search rules))
 
-write-term-write-nested-requires : (t : ℕ) → cycle.Lts-write_term.Need-write-nested-requires (write-term-calls t) (write-term-at t) write-term.Post
+write-term-write-nested-requires : (t : ℕ) → write-term-lts.Need-write_nested-requires (write-term-calls t) (write-term-at t) write-term.Post
 write-term-write-nested-requires t c κs =
-    let at_before = c.before.before.before.before.before in
-    let at_before = at_before.before in
-    let at_pre = at_before.before in
-    (omega (arith, at_pre.requires.0), tt)
+    (omega (arith, c.requires.0), tt)
 
-write-term-returns : (t : ℕ) → cycle.Lts-write_term.Need-returns (write-term-calls t) (write-term-at t) write-term.Post
+write-term-returns : (t : ℕ) → write-term-lts.Need-returns-in-0 (write-term-calls t) (write-term-at t) write-term.Post
 write-term-returns t c =
-    let at-write-component = c.before.before in
-    let at-match = at-write-component.before.before in
-    let at-take-number = at-match.before.before in
-    parts.term_value at-take-number.take-number.ensures at-match.match.keys1 at-write-component.write-component.ensures
+    parts.term_value c.take_number-taken.ensures c.in-0.is c.write_component.ensures
 
-write-term-returns-2 : (t : ℕ) → cycle.Lts-write_term.Need-returns-2 (write-term-calls t) (write-term-at t) write-term.Post
+write-term-returns-2 : (t : ℕ) → write-term-lts.Need-returns-in-1 (write-term-calls t) (write-term-at t) write-term.Post
 write-term-returns-2 t c =
-    let at-write-integer = c.before.before in
-    let at-match = at-write-integer.before.before in
-    let at-take-number = at-match.before.before in
-    parts.term_tag at-take-number.take-number.ensures at-match.match.keys2 at-write-integer.write-integer.ensures
+    parts.term_tag c.take_number-taken.ensures c.in-1.is c.write_integer.ensures
 
-write-term-returns-3 : (t : ℕ) → cycle.Lts-write_term.Need-returns-3 (write-term-calls t) (write-term-at t) write-term.Post
+write-term-returns-3 : (t : ℕ) → write-term-lts.Need-returns-in-2 (write-term-calls t) (write-term-at t) write-term.Post
 write-term-returns-3 t c =
-    let at-write-nested = c.before.before in
-    let at-match = at-write-nested.before.before in
-    let at-take-number = at-match.before.before in
-    parts.term_call at-take-number.take-number.ensures at-match.match.keys3 at-write-nested.write-nested.ensures
+    parts.term_call c.take_number-taken.ensures c.in-2.is c.write_nested.ensures
 
-write-term-returns-4 : (t : ℕ) → cycle.Lts-write_term.Need-returns-4 (write-term-calls t) (write-term-at t) write-term.Post
+write-term-returns-4 : (t : ℕ) → write-term-lts.Need-returns-in_default (write-term-calls t) (write-term-at t) write-term.Post
 write-term-returns-4 t c =
-    let at-match = c.before in
-    let at-take-number = at-match.before.before in
-    parts.term_other at-take-number.take-number.ensures at-match.match.rest.0.0.1
-    at-match.match.rest.0.1 at-match.match.rest.1 c.stopped.ensures
+    parts.term_other c.take_number-taken.ensures c.in_default.in_default-own.rest.0.0.1
+    c.in_default.in_default-own.rest.0.1 c.in_default.in_default-own.rest.1 c.stopped.ensures
 
-write-node-same-length : (t : ℕ) → cycle.Lts-write_node.Need-same-length (write-node-calls t) (write-node-at t) write-node.Post
+write-node-same-length : (t : ℕ) → write-node-lts.Need-shape_of-out (write-node-calls t) (write-node-at t) write-node.Post
 write-node-same-length t c =
-    let at-out6 = c.before in
-    let at-out5 = at-out6.before.before.before.before in
-    let at-out4 = at-out5.before.before.before.before in
-    let at-out3 = at-out4.before.before.before.before in
-    let at-out2 = at-out3.before.before.before.before in
-    let at_out = at-out2.before.before.before.before in
-    at-out6.out6.given ∙ at-out5.out5.given ∙ at-out4.out4.given ∙ at-out3.out3.given ∙ at-out2.out2.given ∙ at_out.out.given
+    c.out-6-1.given ∙ c.out-5-1.given ∙ c.out-4-1.given ∙ c.out-3-1.given ∙ c.out-2-1.given ∙ c.out-1.given
 
-attempt-add-least : (t : ℕ) → cycle.Lts-attempt.Need-add-least (attempt-calls t) (attempt-at t) attempt.Post
-attempt-add-least t c = omega (arith, c.least.ensures)
+attempt-add-least : (t : ℕ) → attempt-lts.Need-overflow_add-early (attempt-calls t) (attempt-at t) attempt.Post
+attempt-add-least t c = omega (arith, c.least-early.ensures)
 
-attempt-sub-write-inside : (t : ℕ) → cycle.Lts-attempt.Need-sub-write-inside (attempt-calls t) (attempt-at t) attempt.Post
-attempt-sub-write-inside t c = omega (arith, c.before.least.ensures, c.least2.ensures)
+attempt-sub-write-inside : (t : ℕ) → attempt-lts.Need-slice_bounds-write_inside-count (attempt-calls t) (attempt-at t) attempt.Post
+attempt-sub-write-inside t c = omega (arith, c.least-early.ensures, c.least-until.ensures)
 
-attempt-part-write-inside-start : (t : ℕ) → cycle.Lts-attempt.Need-part-write-inside-start (attempt-calls t) (attempt-at t) attempt.Post
-attempt-part-write-inside-start t c = omega (arith, c.before.least.ensures)
+attempt-part-write-inside-start : (t : ℕ) → attempt-lts.Need-slice_bounds-write_inside-start (attempt-calls t) (attempt-at t) attempt.Post
+attempt-part-write-inside-start t c = omega (arith, c.least-early.ensures)
 
-attempt-part-write-inside-end : (t : ℕ) → cycle.Lts-attempt.Need-part-write-inside-end (attempt-calls t) (attempt-at t) attempt.Post
-attempt-part-write-inside-end t c = omega (arith, c.least2.ensures)
+attempt-part-write-inside-end : (t : ℕ) → attempt-lts.Need-slice_bounds-write_inside-end (attempt-calls t) (attempt-at t) attempt.Post
+attempt-part-write-inside-end t c = omega (arith, c.least-until.ensures)
 
-attempt-write-inside-requires : (t : ℕ) → cycle.Lts-attempt.Need-write-inside-requires (attempt-calls t) (attempt-at t) attempt.Post
+attempt-write-inside-requires : (t : ℕ) → attempt-lts.Need-write_inside-requires (attempt-calls t) (attempt-at t) attempt.Post
 attempt-write-inside-requires t c κs =
-    let at_pre = c.before.before.before.before.before.before.before.before in
-    (omega (arith, at_pre.requires.0), tt)
+    (omega (arith, c.requires.0), tt)
 
-attempt-returns : (t : ℕ) → cycle.Lts-attempt.Need-returns (attempt-calls t) (attempt-at t) attempt.Post
+attempt-returns : (t : ℕ) → attempt-lts.Need-returns (attempt-calls t) (attempt-at t) attempt.Post
 attempt-returns t c =
-    let at_out = c.before in
-    let at-write-inside = at_out.before in
-    let at_front = at-write-inside.before in
-    let at-least2 = at_front.before.before in
-    let at_least_lem = at-least2.before in
-    let at-add = at_least_lem.before in
-    let at-args = at-add.before.before.before.before in
-    wrote_early (early_places at-args.args.s.at _ at-add.add.ensures at_least_lem.least.ensures at-least2.least2.ensures)
-    at_out.out.given.0 at_front.front.ensures
-    at-write-inside.write-inside.ensures
+    wrote_early (early_places c.args.s.at _ c.add.ensures c.least-early.ensures c.least-until.ensures)
+    c.out-1.given.0 c.front.ensures
+    c.write_inside.ensures
 
-write-nested-attempt-requires : (t : ℕ) → cycle.Lts-write_nested.Need-attempt-requires (write-nested-calls t) (write-nested-at t) write-nested.Post
+write-nested-attempt-requires : (t : ℕ) → write-nested-lts.Need-attempt-inside-requires (write-nested-calls t) (write-nested-at t) write-nested.Post
 write-nested-attempt-requires t c κs =
-    let at_pre = c.before.before.before.before in
-    (omega (arith, at_pre.requires.0), tt)
+    (omega (arith, c.requires.0), tt)
 
-write-nested-returns : (t : ℕ) → cycle.Lts-write_nested.Need-returns (write-nested-calls t) (write-nested-at t) write-nested.Post
+write-nested-returns : (t : ℕ) → write-nested-lts.Need-returns-then-not-inside (write-nested-calls t) (write-nested-at t) write-nested.Post
 write-nested-returns t c =
-    let at-attempt = c.before.before.before.before in
-    wrote_as (parts.nested_as _ refl) (nested_stopped at-attempt.attempt.ensures _ (not-true _ c.if1.true))
+    wrote_as (parts.nested_as _ refl) (nested_stopped c.attempt-inside.ensures _ (not-true _ c.if-not-inside.true))
 
 write-nested-element-size-requires : (t : ℕ)
-    → cycle.Lts-write_nested.Need-element-size-requires (write-nested-calls t) (write-nested-at t) write-nested.Post
+    → write-nested-lts.Need-element_size-size-requires (write-nested-calls t) (write-nested-at t) write-nested.Post
 write-nested-element-size-requires t c κs =
-    let at-attempt = c.before.before.before.before.before.before in
-    omega (arith, c.cap.ensures, capped_most at-attempt.attempt.result.at)
+    omega (arith, c.cap-n.ensures, capped_most c.attempt-inside.result.at)
 
-write-nested-returns-2 : (t : ℕ) → cycle.Lts-write_nested.Need-returns-2 (write-nested-calls t) (write-nested-at t) write-nested.Post
+write-nested-returns-2 : (t : ℕ) → write-nested-lts.Need-returns-then-not-has_room (write-nested-calls t) (write-nested-at t) write-nested.Post
 write-nested-returns-2 t c =
-    let at-has-room = c.before in
-    let at-placed = at-has-room.before in
-    let at-add = at-placed.before in
-    let at-element-size = at-add.before in
-    let at_cap = at-element-size.before in
-    let at-type-of = at_cap.before in
-    let at-if1 = at-type-of.before in
-    let at-attempt = at-if1.before.before.before.before in
-    wrote_as (parts.nested_as _ at-type-of.type-of.ensures)
-    (nested_no_room at-attempt.attempt.ensures _ (not-false _ at-if1.if1.false)
-    at_cap.cap.ensures at-element-size.element_size.ensures
-    (at-placed.placed.ensures ∙ ap (placed at-attempt.attempt.result) at-add.add.ensures)
-    (sym at-has-room.has_room.ensures ∙ not-true _ c.if2.true))
+    wrote_as (parts.nested_as _ c.type_of-typ.ensures)
+    (nested_no_room c.attempt-inside.ensures _ (not-false _ c.if-not-inside.false)
+    c.cap-n.ensures c.element_size-size.ensures
+    (c.placed-next.ensures ∙ ap (placed c.attempt-inside.result) c.add.ensures)
+    (sym c.has_room.ensures ∙ c.if-not-has_room.true))
 
 write-nested-put-header-requires : (t : ℕ)
-    → cycle.Lts-write_nested.Need-put-header-requires (write-nested-calls t) (write-nested-at t) write-nested.Post
+    → write-nested-lts.Need-put_header-start-requires (write-nested-calls t) (write-nested-at t) write-nested.Post
 write-nested-put-header-requires t c κs =
-    let at-if2 = c.before in
-    let at-has-room = at-if2.before in
-    let at-element-size = at-has-room.before.before.before in
-    header_fits _ _ _ at-element-size.element_size.ensures _ at-has-room.has_room.ensures (not-false _ at-if2.if2.false)
+    header_fits _ _ _ c.element_size-size.ensures _ c.has_room.ensures c.if-not-has_room.false
 
-write-nested-returns-3 : (t : ℕ) → cycle.Lts-write_nested.Need-returns-3 (write-nested-calls t) (write-nested-at t) write-nested.Post
+write-nested-returns-3 : (t : ℕ) → write-nested-lts.Need-returns-then-n-le-SHORT (write-nested-calls t) (write-nested-at t) write-nested.Post
 write-nested-returns-3 t c =
-    let at-put-header = c.before.before.before in
-    let at-if2 = at-put-header.before.before in
-    let at-has-room = at-if2.before in
-    let at-placed = at-has-room.before in
-    let at-add = at-placed.before in
-    let at-element-size = at-add.before in
-    let at_cap = at-element-size.before in
-    let at-type-of = at_cap.before in
-    let at-if1 = at-type-of.before in
-    let at-attempt = at-if1.before.before.before.before in
-    let at-args = at-attempt.before.before.before.before.before in
-    wrote_as (parts.nested_as _ at-type-of.type-of.ensures)
-    (nested_early at-attempt.attempt.ensures _ (not-false _ at-if1.if1.false) at_cap.cap.ensures at-element-size.element_size.ensures
-    (at-placed.placed.ensures ∙ ap (placed at-attempt.attempt.result) at-add.add.ensures)
-    (sym at-has-room.has_room.ensures ∙ not-false _ at-if2.if2.false)
-    (parts.type_short at-args.args.container at-type-of.type-of.ensures)
-    c.if3.true at-put-header.put-header.ensures)
+    wrote_as (parts.nested_as _ c.type_of-typ.ensures)
+    (nested_early c.attempt-inside.ensures _ (not-false _ c.if-not-inside.false) c.cap-n.ensures c.element_size-size.ensures
+    (c.placed-next.ensures ∙ ap (placed c.attempt-inside.result) c.add.ensures)
+    (sym c.has_room.ensures ∙ c.if-not-has_room.false)
+    (parts.type_short c.args.container c.type_of-typ.ensures)
+    c.if-n-le-SHORT.true c.put_header-start.ensures)
 
-write-nested-add-end : (t : ℕ) → cycle.Lts-write_nested.Need-add-end (write-nested-calls t) (write-nested-at t) write-nested.Post
+write-nested-add-end : (t : ℕ) → write-nested-lts.Need-overflow_add-end (write-nested-calls t) (write-nested-at t) write-nested.Post
 write-nested-add-end t c =
-    let at-out2 = c.before.before in
-    let at-put-header = at-out2.before in
-    let at-if2 = at-put-header.before.before in
-    let at-has-room = at-if2.before in
-    let at-element-size = at-has-room.before.before.before in
-    let at_out = at-element-size.before.before.before.before.before.before in
-    let at-good = at_out.before.before.before.before.before.before in
     omega (
       arith,
-      at-good.well-formed,
-      at-out2.out2.given,
-      at_out.out.given,
-      inside_fits _ _ _ at-element-size.element_size.ensures at-has-room.has_room.ensures
-          (not-false _ at-if2.if2.false) at-put-header.put-header.ensures,
+      c.well_formed,
+      c.out-2-1.given,
+      c.out-1.given,
+      inside_fits _ _ _ c.element_size-size.ensures c.has_room.ensures
+          c.if-not-has_room.false c.put_header-start.ensures,
     )
 
-write-nested-sub-write-inside : (t : ℕ) → cycle.Lts-write_nested.Need-sub-write-inside (write-nested-calls t) (write-nested-at t) write-nested.Post
+write-nested-sub-write-inside : (t : ℕ) → write-nested-lts.Need-slice_bounds-write_inside-count (write-nested-calls t) (write-nested-at t) write-nested.Post
 write-nested-sub-write-inside t c = omega arith
 
 write-nested-part-write-inside-end : (t : ℕ)
-    → cycle.Lts-write_nested.Need-part-write-inside-end (write-nested-calls t) (write-nested-at t) write-nested.Post
+    → write-nested-lts.Need-slice_bounds-write_inside-end (write-nested-calls t) (write-nested-at t) write-nested.Post
 write-nested-part-write-inside-end t c =
-    let at-put-header = c.before.before.before in
-    let at-if2 = at-put-header.before.before in
-    let at-has-room = at-if2.before in
-    let at-element-size = at-has-room.before.before.before in
-    inside_fits _ _ _ at-element-size.element_size.ensures at-has-room.has_room.ensures
-    (not-false _ at-if2.if2.false) at-put-header.put-header.ensures
+    inside_fits _ _ _ c.element_size-size.ensures c.has_room.ensures
+    c.if-not-has_room.false c.put_header-start.ensures
 
 write-nested-write-inside-requires : (t : ℕ)
-    → cycle.Lts-write_nested.Need-write-inside-requires (write-nested-calls t) (write-nested-at t) write-nested.Post
+    → write-nested-lts.Need-write_inside-requires (write-nested-calls t) (write-nested-at t) write-nested.Post
 write-nested-write-inside-requires t c κs =
-    let far-12 = c.before.before.before.before.before.before.before.before.before.before.before.before in
-    let at_pre = far-12.before.before.before.before.before.before.before.before.before.before.before in
-    (omega (arith, at_pre.requires.0), tt)
+    (omega (arith, c.requires.0), tt)
 
-write-nested-returns-4 : (t : ℕ) → cycle.Lts-write_nested.Need-returns-4 (write-nested-calls t) (write-nested-at t) write-nested.Post
+write-nested-returns-4 : (t : ℕ) → write-nested-lts.Need-returns (write-nested-calls t) (write-nested-at t) write-nested.Post
 write-nested-returns-4 t c =
-    let at-write-inside = c.before.before in
-    let at_front = at-write-inside.before in
-    let at-if3 = at_front.before.before in
-    let at-put-header = at-if3.before.before.before in
-    let at-if2 = at-put-header.before.before in
-    let at-has-room = at-if2.before in
-    let at-placed = at-has-room.before in
-    let at-add = at-placed.before in
-    let at-element-size = at-add.before in
-    let at_cap = at-element-size.before in
-    let at-type-of = at_cap.before in
-    let at-if1 = at-type-of.before in
-    let at-attempt = at-if1.before.before.before.before in
-    wrote_as (parts.nested_as _ at-type-of.type-of.ensures)
-    (nested_again at-attempt.attempt.ensures _ (not-false _ at-if1.if1.false) at_cap.cap.ensures at-element-size.element_size.ensures
-    (at-placed.placed.ensures ∙ ap (placed at-attempt.attempt.result) at-add.add.ensures)
-    (sym at-has-room.has_room.ensures ∙ not-false _ at-if2.if2.false)
-    at-if3.if3.false at-put-header.put-header.ensures refl
-    at_front.front.ensures at-write-inside.write-inside.ensures)
+    wrote_as (parts.nested_as _ c.type_of-typ.ensures)
+    (nested_again c.attempt-inside.ensures _ (not-false _ c.if-not-inside.false) c.cap-n.ensures c.element_size-size.ensures
+    (c.placed-next.ensures ∙ ap (placed c.attempt-inside.result) c.add.ensures)
+    (sym c.has_room.ensures ∙ c.if-not-has_room.false)
+    c.if-n-le-SHORT.false c.put_header-start.ensures refl
+    c.front.ensures c.write_inside.ensures)
 
-write-nested-same-length-4 : (t : ℕ) → cycle.Lts-write_nested.Need-same-length-4 (write-nested-calls t) (write-nested-at t) write-nested.Post
+write-nested-same-length-4 : (t : ℕ) → write-nested-lts.Need-shape_of-out (write-nested-calls t) (write-nested-at t) write-nested.Post
 write-nested-same-length-4 t c =
-    let at-out3 = c.before in
-    let at-out2 = at-out3.before.before.before.before.before.before in
-    let far-19 = at-out2.before.before.before.before.before.before.before.before.before.before.before.before in
-    let at_out = far-19.before in
-    at-out3.out3.given.1 ∙ at-out2.out2.given ∙ at_out.out.given
+    c.out-3-1.given.1 ∙ c.out-2-1.given ∙ c.out-1.given
 
 pub +attempt_write_call_write_inside_write_many_write_nested_write_node_write_part_write_pattern_edge_write_term_spec :
     {M : Type 1} → statement M
@@ -746,7 +588,7 @@ pub +attempt_write_call_write_inside_write_many_write_nested_write_node_write_pa
     μ-write-part
     μ-write-pattern-edge
     μ-write-term
-    (λ t. cycle.Lts-attempt.spec (attempt-calls t) (attempt-at t)
+    (λ t. attempt-lts.spec (attempt-calls t) (attempt-at t)
     attempt.Post
     (λ c κs. search rules)
     (λ c κs. search rules)
@@ -759,13 +601,13 @@ pub +attempt_write_call_write_inside_write_many_write_nested_write_node_write_pa
     (attempt-write-inside-requires t)
     (λ c. search rules)
     (attempt-returns t))
-    (λ t. cycle.Lts-write_call.spec (write-call-calls t) (write-call-at t)
+    (λ t. write-call-lts.spec (write-call-calls t) (write-call-at t)
     write-call.Post
     (λ c κs. search rules)
     (write-call-write-many-requires t)
     (λ c. search rules)
     (write-call-returns t))
-    (λ t. cycle.Lts-write_inside.spec (write-inside-calls t) (write-inside-at t)
+    (λ t. write-inside-lts.spec (write-inside-calls t) (write-inside-at t)
     write-inside.Post
     (λ c. search rules)
     (write-inside-write-node-requires t)
@@ -795,7 +637,7 @@ pub +attempt_write_call_write_inside_write_many_write_nested_write_node_write_pa
     (write-inside-returns-6 t)
     (λ c. search rules)
     (write-inside-returns-7 t))
-    (λ t. cycle.Lts-write_many.spec (write-many-calls t) (write-many-at t)
+    (λ t. write-many-lts.spec (write-many-calls t) (write-many-at t)
     write-many.Post
     write-many-Inv-loop
     write-many-μ-loop
@@ -809,7 +651,7 @@ pub +attempt_write_call_write_inside_write_many_write_nested_write_node_write_pa
     (write-many-loop-again t)
     (λ c. search rules)
     (write-many-returns-2 t))
-    (λ t. cycle.Lts-write_nested.spec (write-nested-calls t) (write-nested-at t)
+    (λ t. write-nested-lts.spec (write-nested-calls t) (write-nested-at t)
     write-nested.Post
     (write-nested-attempt-requires t)
     (λ c. search rules)
@@ -834,7 +676,7 @@ pub +attempt_write_call_write_inside_write_many_write_nested_write_node_write_pa
     (write-nested-write-inside-requires t)
     (write-nested-same-length-4 t)
     (write-nested-returns-4 t))
-    (λ t. cycle.Lts-write_node.spec (write-node-calls t) (write-node-at t)
+    (λ t. write-node-lts.spec (write-node-calls t) (write-node-at t)
     write-node.Post
     (λ c κs. search rules)
     (λ c κs. search rules)
@@ -844,7 +686,7 @@ pub +attempt_write_call_write_inside_write_many_write_nested_write_node_write_pa
     (write-node-write-many-requires-4 t)
     (write-node-same-length t)
     (write-node-returns t))
-    (λ t. cycle.Lts-write_part.spec (write-part-calls t) (write-part-at t)
+    (λ t. write-part-lts.spec (write-part-calls t) (write-part-at t)
     write-part.Post
     (λ c. search rules)
     (λ c κs. search rules)
@@ -866,13 +708,13 @@ pub +attempt_write_call_write_inside_write_many_write_nested_write_node_write_pa
     (write-part-returns-4 t)
     (λ c. search rules)
     (write-part-returns-5 t))
-    (λ t. cycle.Lts-write_pattern_edge.spec (write-pattern-edge-calls t) (write-pattern-edge-at t)
+    (λ t. write-pattern-edge-lts.spec (write-pattern-edge-calls t) (write-pattern-edge-at t)
     write-pattern-edge.Post
     (λ c κs. search rules)
     (write-pattern-edge-write-many-requires t)
     (λ c. search rules)
     (write-pattern-edge-returns t))
-    λ t. cycle.Lts-write_term.spec (write-term-calls t) (write-term-at t)
+    λ t. write-term-lts.spec (write-term-calls t) (write-term-at t)
     write-term.Post
     (λ c κs. search rules)
     (λ c κs. search rules)
