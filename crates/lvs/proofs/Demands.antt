@@ -18,7 +18,7 @@ use mathlib.Core.Option.{some}
 use native.Mathlib.Omega.{arith}
 use lib.ListN.{length, take}
 use contract.Lifetimes.{Lfts}
-use denote.Ref.{MutBor, at_last}
+use denote.Ref.{Bor, MutBor, at_last}
 use Rattle.tlv.specs.Bytes.{Bytes}
 use Rattle.tlv.specs.Element.{Element, type_in_range, element_bytes, encode, InRange, Each}
 use Rattle.lvs_spec.specs.Limits.{max_model_bytes, max_tag}
@@ -81,21 +81,29 @@ use Rattle.lvs.proofs.suggest.Reads as suggest
 -- passed, the answer, and the slices after the call. How long the slices live and where they lie is left open.
 
 abbrev pub Slice : Type 0
-Slice = MutBor (List ℕ)
+Slice = Bor (List ℕ)
+
+-- one that is lent to be written
+abbrev pub Lent : Type 0
+Lent = MutBor (List ℕ)
+
+-- the slice, with these bytes in it
+abbrev pub holding : Slice → List ℕ → Slice
+holding s xs = record { ref_ptr = s.ref_ptr; now = xs }
 
 -- a call of `judge_model` with a slice that holds `model` answered r
 pub record Judged (model : List ℕ) (r : Verdict) : Type 0 where
   pub lives : Lfts 1
   pub m : Slice
-  pub learnt : judge-model.Learnt lives (at_last m model, tt) r (at_last m model, tt)
+  pub learnt : judge-model.Learnt lives (holding m model, tt) r (holding m model, tt)
 
 -- a call of `match_name` answered r, and the buffer then held the words `after`
 pub record Matched (model name buffer : List ℕ) (r : MatchAnswer) (after : List ℕ) : Type 0 where
   pub lives : Lfts 3
   pub m : Slice
   pub n : Slice
-  pub b : Slice
-  pub learnt : match-name.Learnt lives (at_last m model, (at_last n name, (at_last b buffer, tt))) r (at_last m model, (at_last n name, (at_last b after, tt)))
+  pub b : Lent
+  pub learnt : match-name.Learnt lives (holding m model, (holding n name, (at_last b buffer, tt))) r (holding m model, (holding n name, (at_last b after, tt)))
 
 -- a call of `sign` that was lent the buffers s answered r, and these then held what `after` says
 pub record Signed (model packet key : List ℕ) (s : Buffers) (r : SignAnswer) (after : Buffers) : Type 0 where
@@ -103,10 +111,10 @@ pub record Signed (model packet key : List ℕ) (s : Buffers) (r : SignAnswer) (
   pub m : Slice
   pub p : Slice
   pub k : Slice
-  pub b : Slice
-  pub w : Slice
-  pub learnt : sign.Learnt lives (at_last m model, (at_last p packet, (at_last k key, (at_last b s.words, (at_last w s.path, tt))))) r
-      (at_last m model, (at_last p packet, (at_last k key, (at_last b after.words, (at_last w after.path, tt)))))
+  pub b : Lent
+  pub w : Lent
+  pub learnt : sign.Learnt lives (holding m model, (holding p packet, (holding k key, (at_last b s.words, (at_last w s.path, tt))))) r
+      (holding m model, (holding p packet, (holding k key, (at_last b after.words, (at_last w after.path, tt)))))
 
 -- a call of `follow` answered r
 pub record Followed (model packet key path : List ℕ) (r : FollowAnswer) : Type 0 where
@@ -115,8 +123,8 @@ pub record Followed (model packet key path : List ℕ) (r : FollowAnswer) : Type
   pub p : Slice
   pub k : Slice
   pub w : Slice
-  pub learnt : follow.Learnt lives (at_last m model, (at_last p packet, (at_last k key, (at_last w path, tt)))) r
-      (at_last m model, (at_last p packet, (at_last k key, (at_last w path, tt))))
+  pub learnt : follow.Learnt lives (holding m model, (holding p packet, (holding k key, (holding w path, tt)))) r
+      (holding m model, (holding p packet, (holding k key, (holding w path, tt))))
 
 -- a call of `suggest` answered r
 pub record Suggested (model packet list : List ℕ) (r : SuggestAnswer) : Type 0 where
@@ -124,7 +132,7 @@ pub record Suggested (model packet list : List ℕ) (r : SuggestAnswer) : Type 0
   pub m : Slice
   pub p : Slice
   pub l : Slice
-  pub learnt : suggest.Learnt lives (at_last m model, (at_last p packet, (at_last l list, tt))) r (at_last m model, (at_last p packet, (at_last l list, tt)))
+  pub learnt : suggest.Learnt lives (holding m model, (holding p packet, (holding l list, tt))) r (holding m model, (holding p packet, (holding l list, tt)))
 
 -- the answer of each call, and every word of what is lent to it, are those of the definitions
 pub judged_is : {model : List ℕ} {r : Verdict} → Judged model r → verdict_of r ≡ verdict model
@@ -149,10 +157,10 @@ suggested_is c = c.learnt
 pub judge_asks_nothing : (lives : Lfts 1) (m : Slice) → judge-model.Asked lives (m, tt)
 judge_asks_nothing lives m = tt
 
-pub match_asks_nothing : (lives : Lfts 3) (m n b : Slice) → match-name.Asked lives (m, (n, (b, tt)))
+pub match_asks_nothing : (lives : Lfts 3) (m n : Slice) (b : Lent) → match-name.Asked lives (m, (n, (b, tt)))
 match_asks_nothing lives m n b = tt
 
-pub sign_asks_nothing : (lives : Lfts 4) (m p k b w : Slice) → sign.Asked lives (m, (p, (k, (b, (w, tt)))))
+pub sign_asks_nothing : (lives : Lfts 4) (m p k : Slice) (b w : Lent) → sign.Asked lives (m, (p, (k, (b, (w, tt)))))
 sign_asks_nothing lives m p k b w = tt
 
 pub follow_asks_nothing : (lives : Lfts 3) (m p k w : Slice) → follow.Asked lives (m, (p, (k, (w, tt))))
