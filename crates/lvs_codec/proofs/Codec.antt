@@ -23,7 +23,7 @@ use Rattle.lvs_spec.specs.Answers.{Refusal}
 use Rattle.lvs_verdict.specs.declared.Verdict.{Verdict}
 use Rattle.lvs_verdict.specs.declared.Verdict.TheVariants as verdicts
 use Rattle.lvs.proofs.Same.{same_verdict}
-use Rattle.lvs.proofs.Demands.{Slice, Judged, judged_is, SameCalls, same_calls}
+use Rattle.lvs.proofs.Demands.{Slice, Judged, judged_is, SameCalls, same_calls, Lent, holding}
 use Rattle.lvs_description.specs.Description.{model_bytes, description_of, numbers_of, texts_of}
 use Rattle.lvs_description.specs.Answers.{no_description, short_output, on_front, WriteOutcome, write_outcome, DescribeOutcome, describe_outcome}
 use Rattle.lvs_description.proofs.Refusals.{write_refusals, describe_refusals}
@@ -47,17 +47,17 @@ pub record Wrote (ns ts before : List ℕ) (r : WriteAnswer) (after : List ℕ) 
   pub lives : Lfts 3
   pub n : Slice
   pub t : Slice
-  pub o : Slice
-  pub learnt : write-model.Learnt lives (at_last n ns, (at_last t ts, (at_last o before, tt))) r (at_last n ns, (at_last t ts, (at_last o after, tt)))
+  pub o : Lent
+  pub learnt : write-model.Learnt lives (holding n ns, (holding t ts, (at_last o before, tt))) r (holding n ns, (holding t ts, (at_last o after, tt)))
 
 -- a call of `describe_model` with the bytes b and lists that hold ns and ts answered r, and the lists then held `numbers` and `texts`
 pub record Described (b ns ts : List ℕ) (r : DescribeAnswer) (numbers texts : List ℕ) : Type 0 where
   pub lives : Lfts 3
   pub m : Slice
-  pub n : Slice
-  pub t : Slice
-  pub learnt : describe-model.Learnt lives (at_last m b, (at_last n ns, (at_last t ts, tt))) r
-      (at_last m b, (at_last n numbers, (at_last t texts, tt)))
+  pub n : Lent
+  pub t : Lent
+  pub learnt : describe-model.Learnt lives (holding m b, (at_last n ns, (at_last t ts, tt))) r
+      (holding m b, (at_last n numbers, (at_last t texts, tt)))
 
 -- the answer of each call, and all that was lent, after it, are those of the definitions
 pub wrote_is : {ns ts before after : List ℕ} {r : WriteAnswer} → Wrote ns ts before r after
@@ -69,10 +69,10 @@ pub described_is : {b ns ts numbers texts : List ℕ} {r : DescribeAnswer} → D
 described_is c = c.learnt
 
 -- nothing is asked of a caller
-pub write_asks_nothing : (lives : Lfts 3) (n t o : Slice) → write-model.Asked lives (n, (t, (o, tt)))
+pub write_asks_nothing : (lives : Lfts 3) (n t : Slice) (o : Lent) → write-model.Asked lives (n, (t, (o, tt)))
 write_asks_nothing lives n t o = tt
 
-pub describe_asks_nothing : (lives : Lfts 3) (m n t : Slice) → describe-model.Asked lives (m, (n, (t, tt)))
+pub describe_asks_nothing : (lives : Lfts 3) (m : Slice) (n t : Lent) → describe-model.Asked lives (m, (n, (t, tt)))
 describe_asks_nothing lives m n t = tt
 
 -- ---- the writing call

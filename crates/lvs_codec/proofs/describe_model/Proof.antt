@@ -5,37 +5,34 @@ use Rattle.lvs_codec.proofs.describe_model.Statement.{statement}
 use Rattle.lvs_codec.proofs.describe_model.Tie as tie
 
 -- where the model was judged, where it was accepted, and where the call began
-abbrev start : tie.After-judge-model → tie.Start
+abbrev start : tie.After-judge_model → tie.Start
 start c = c.before.before.before.before
 
-abbrev accepted : tie.After-describe → tie.After-enum-told
+abbrev accepted : tie.After-describe → tie.In_default
 accepted c = c.before.before.before
 
-abbrev judged : tie.After-describe → tie.After-judge-model
-judged c = (accepted c).before.before
+abbrev judged : tie.After-describe → tie.After-judge_model
+judged c = (accepted c).before
 
-returns : tie.Need-returns
+returns : tie.Need-returns-in-Refused
 returns c =
-    let j = c.before.before.before in
-    let a = (start j).args in
-    model_refused a.model.now a.numbers.now a.texts.now j.judge-model.ensures c.before.number.given.1
+    let a = (start c.before).args in
+    model_refused a.model.now a.numbers.now a.texts.now c.judge_model.ensures c.in-Refused.is
 
-returns-2 : tie.Need-returns-2
+returns-2 : tie.Need-returns-in-TooShort
 returns-2 c =
-    let d = c.before.before.before.before.before.before in
-    let a = (start (judged d)).args in
-    lists_short a.model.now a.numbers.now a.texts.now (judged d).judge-model.ensures (accepted d).enum_told.given.1 d.describe.ensures
-    c.enum-told2.given.1
+    let a = (start (judged c.before.before.before.before.before)).args in
+    lists_short a.model.now a.numbers.now a.texts.now (judged c.before.before.before.before.before).judge_model.ensures (accepted c.before.before.before.before.before).in_default.is c.describe.ensures
+    c.in-TooShort.is
 
-returns-3 : tie.Need-returns-3
+returns-3 : tie.Need-returns-in-Of
 returns-3 c =
-    let d = c.before.before.before.before.before.before.before in
-    let a = (start (judged d)).args in
-    lists_put a.model.now a.numbers.now a.texts.now (judged d).judge-model.ensures (accepted d).enum_told.given.1 d.describe.ensures
-    c.before.n.given.1
+    let a = (start (judged c.before.before.before.before.before)).args in
+    lists_put a.model.now a.numbers.now a.texts.now (judged c.before.before.before.before.before).judge_model.ensures (accepted c.before.before.before.before.before).in_default.is c.describe.ensures
+    c.in-Of.is
 
-pub describe-model-spec : {M : Type 1} → statement M
-describe-model-spec =
+pub describe_model_spec : {M : Type 1} → statement M
+describe_model_spec =
     tie.close
     (tie.spec
     (λ c κs. search rules)

@@ -5,25 +5,23 @@ use Rattle.lvs_codec.proofs.refuse_short.Statement.{statement}
 use Rattle.lvs_codec.proofs.refuse_short.Tie as tie
 
 -- where the bytes were judged, where they were written, and where the call began
-abbrev wrote : tie.After-judge-model → tie.After-write-description
-wrote c = c.before.before.before.before
+abbrev wrote : tie.After-judge_model → tie.After-write_description
+wrote c = c.before.before.before
 
-abbrev start : tie.After-judge-model → tie.Start
+abbrev start : tie.After-judge_model → tie.Start
 start c = (wrote c).before.before.before.before.before
 
-returns : tie.Need-returns
+returns : tie.Need-returns-in-Refused
 returns c =
-    let j = c.before.before.before in
-    let refused = bytes_refused (start j).requires (wrote j).write-description.ensures j.judge-model.ensures c.before.number.given.1 in
+    let refused = bytes_refused (start c.before).requires (wrote c.before).write_description.ensures c.judge_model.ensures c.in-Refused.is in
     record { is = λ before h. refused before }
 
-returns-2 : tie.Need-returns-2
+returns-2 : tie.Need-returns-in-Accepted
 returns-2 c =
-    let j = c.before.before in
-    record { is = no_room (start j).requires (wrote j).write-description.ensures j.judge-model.ensures c.enum_told.given.1 }
+    record { is = no_room (start c.before).requires (wrote c.before).write_description.ensures c.judge_model.ensures c.in-Accepted.is }
 
-pub refuse-short-spec : {M : Type 1} → statement M
-refuse-short-spec =
+pub refuse_short_spec : {M : Type 1} → statement M
+refuse_short_spec =
     tie.close
     (tie.spec
     (λ c κs. search rules)

@@ -7,17 +7,17 @@ use Rattle.lvs_codec.proofs.write_large.Statement.{statement}
 use Rattle.lvs_codec.proofs.write_large.Tie as tie
 
 -- where the call began
-abbrev start : tie.After-space → tie.Start
+abbrev start : tie.After-space-1 → tie.Start
 start c = c.before.before.before.before.before
 
-slice-aggregate-write-with : tie.Need-slice-aggregate-write-with
+slice-aggregate-write-with : tie.Need-slice_bounds-write_with-end
 slice-aggregate-write-with c = sym (length-take-le _ _ (start c).requires.small)
 
-write-with-requires : tie.Need-write-with-requires
+write-with-requires : tie.Need-write_with-requires
 write-with-requires c κs = sized_front (start c).requires _ (start c).requires.small
 
-pub write-large-spec : {M : Type 1} → statement M
-write-large-spec =
+pub write_large_spec : {M : Type 1} → statement M
+write_large_spec =
     tie.close
     (tie.spec
     (λ c. search rules)

@@ -6,36 +6,36 @@ use Rattle.lvs_codec.proofs.write_model.Statement.{statement}
 use Rattle.lvs_codec.proofs.write_model.Tie as tie
 
 -- where the call began; what the size says of the lists, and that it is small enough
-abbrev start : tie.After-described-size → tie.Start
+abbrev start : tie.After-described_size → tie.Start
 start c = c.before.before.before.before
 
-abbrev sizing : tie.After-size → tie.After-described-size
-sizing c = c.before.before
+abbrev sizing : tie.In-Bytes → tie.After-described_size
+sizing c = c.before
 
-known : (c : tie.After-size) → Measured (start (sizing c)).args.numbers.now (start (sizing c)).args.texts.now c.size.given.0.0
-known c = measured _ _ (sizing c).described-size.ensures c.size.given.1
+known : (c : tie.In-Bytes) → Measured (start (sizing c)).args.numbers.now (start (sizing c)).args.texts.now c.in-Bytes.size
+known c = measured _ _ (sizing c).described_size.ensures c.in-Bytes.is
 
-abbrev size_of : tie.Else1 → tie.After-size
-size_of c = c.before.before
+abbrev size_of : tie.Else-size-gt-MAX_MODEL_BYTES → tie.In-Bytes
+size_of c = c.before
 
-fits : (c : tie.Else1)
-    → Sized (start (sizing (size_of c))).args.numbers.now (start (sizing (size_of c))).args.texts.now (size_of c).size.given.0.0
-fits c = sized (known (size_of c)) c.if1.false
+fits : (c : tie.Else-size-gt-MAX_MODEL_BYTES)
+    → Sized (start (sizing (size_of c))).args.numbers.now (start (sizing (size_of c))).args.texts.now (size_of c).in-Bytes.size
+fits c = sized (known (size_of c)) c.if-size-gt-MAX_MODEL_BYTES.false
 
-returns : tie.Need-returns
-returns c = let d = c.before.before in nothing_described _ _ d.described-size.ensures (start d).args.output.now c.enum_told.given.1
+returns : tie.Need-returns-in_default
+returns c = nothing_described _ _ c.described_size.ensures (start c.before).args.output.now c.in_default.is
 
-returns-2 : tie.Need-returns-2
-returns-2 c = let z = c.before.before in too_long_lem (known z) (start (sizing z)).args.output.now c.if1.true
+returns-2 : tie.Need-returns-then-size-gt-MAX_MODEL_BYTES
+returns-2 c = too_long_lem (known c.before) (start (sizing c.before)).args.output.now c.if-size-gt-MAX_MODEL_BYTES.true
 
-write-small-requires : tie.Need-write-small-requires
-write-small-requires c κs = (fits c.before.before, c.before.if2.true)
+write-small-requires : tie.Need-write_small-requires
+write-small-requires c κs = (fits c.before.before, c.if-size-le-SMALL.true)
 
-write-large-requires : tie.Need-write-large-requires
+write-large-requires : tie.Need-write_large-requires
 write-large-requires c κs = fits c.before.before
 
-pub write-model-spec : {M : Type 1} → statement M
-write-model-spec =
+pub write_model_spec : {M : Type 1} → statement M
+write_model_spec =
     tie.close
     (tie.spec
     (λ c κs. search rules)

@@ -4,31 +4,17 @@ use Rattle.lvs_codec.proofs.Writes.{put_back, bytes_written}
 use Rattle.lvs_codec.proofs.write_over.Statement.{statement}
 use Rattle.lvs_codec.proofs.write_over.Tie as tie
 
--- where the bytes were judged, where they were written, where the place was kept, and where the call began
-abbrev wrote : tie.After-judge-model → tie.After-write-description
-wrote c = c.before.before.before.before
-
-abbrev kept : tie.After-judge-model → tie.After-put-bytes
-kept c = (wrote c).before.before.before.before
-
-abbrev start : tie.After-judge-model → tie.Start
-start c = (kept c).before.before.before.before.before.before.before
-
-returns : tie.Need-returns
+returns : tie.Need-returns-in-Refused
 returns c =
-    let p = c.before.before in
-    let n = p.before.before.before.before in
-    let j = n.before.before in
-    put_back (start j).requires.0 (wrote j).write-description.ensures j.judge-model.ensures n.number.given.1 (kept j).put-bytes.ensures
-    (start j).requires.1 p.put-bytes2.ensures
+    put_back c.requires.0 c.write_description.ensures c.judge_model.ensures c.in-Refused.is c.put_bytes.ensures
+    c.requires.1 c.put_bytes-in-Refused.ensures
 
-returns-2 : tie.Need-returns-2
+returns-2 : tie.Need-returns-in-Accepted
 returns-2 c =
-    let j = c.before.before in
-    bytes_written (start j).requires.0 (wrote j).write-description.ensures j.judge-model.ensures c.enum_told.given.1
+    bytes_written c.requires.0 c.write_description.ensures c.judge_model.ensures c.in-Accepted.is
 
-pub write-over-spec : {M : Type 1} → statement M
-write-over-spec =
+pub write_over_spec : {M : Type 1} → statement M
+write_over_spec =
     tie.close
     (tie.spec
     (λ c κs. search rules)

@@ -7,17 +7,17 @@ use Rattle.lvs_codec.proofs.write_small.Statement.{statement}
 use Rattle.lvs_codec.proofs.write_small.Tie as tie
 
 -- where the call began
-abbrev start : tie.After-space → tie.Start
+abbrev start : tie.After-space-1 → tie.Start
 start c = c.before.before.before.before.before
 
-slice-aggregate-write-with : tie.Need-slice-aggregate-write-with
+slice-aggregate-write-with : tie.Need-slice_bounds-write_with-end
 slice-aggregate-write-with c = sym (length-take-le _ _ (start c).requires.1)
 
-write-with-requires : tie.Need-write-with-requires
+write-with-requires : tie.Need-write_with-requires
 write-with-requires c κs = sized_front (start c).requires.0 _ (start c).requires.1
 
-pub write-small-spec : {M : Type 1} → statement M
-write-small-spec =
+pub write_small_spec : {M : Type 1} → statement M
+write_small_spec =
     tie.close
     (tie.spec
     (λ c. search rules)

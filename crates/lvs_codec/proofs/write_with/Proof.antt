@@ -6,34 +6,30 @@ use Rattle.lvs_codec.proofs.Writes.{sized_front, on_the_front}
 use Rattle.lvs_codec.proofs.write_with.Statement.{statement}
 use Rattle.lvs_codec.proofs.write_with.Tie as tie
 
-returns : tie.Need-returns
+returns : tie.Need-returns-then-output-size
 returns c =
-    let r = c.before.before in
-    r.refuse-short.ensures.is _ r.before.before.if1.true
+    c.refuse_short.ensures.is _ c.if-output-size.true
 
 -- where there is room, and where the call began
-abbrev room : tie.After-write-over-arg → tie.Else1
+abbrev room : tie.After-write_over-arg-1 → tie.Else-output-size
 room c = c.before
 
-abbrev start : tie.After-write-over-arg → tie.Start
+abbrev start : tie.After-write_over-arg-1 → tie.Start
 start c = (room c).before.before.before.before.before
 
-slice-aggregate-write-over : tie.Need-slice-aggregate-write-over
+slice-aggregate-write-over : tie.Need-slice_bounds-write_over-end-2
 slice-aggregate-write-over c = sym (length-take-le _ _ (search rules))
 
-write-over-requires : tie.Need-write-over-requires
+write-over-requires : tie.Need-write_over-requires
 write-over-requires c κs =
-    let a = c.before in
-    (sized_front (start a).requires _ (room a).if1.false, sym (length-take-le _ _ (room a).if1.false))
+    (sized_front (start c.before).requires _ (room c.before).if-output-size.false, sym (length-take-le _ _ (room c.before).if-output-size.false))
 
-returns-2 : tie.Need-returns-2
+returns-2 : tie.Need-returns
 returns-2 c =
-    let w = c.before.before.before.before in
-    let a = w.before.before in
-    on_the_front (start a).requires (start a).args.output.now (room a).if1.false w.write-over.ensures
+    on_the_front (start c.before.before.before.before.before.before).requires (start c.before.before.before.before.before.before).args.output.now (room c.before.before.before.before.before.before).if-output-size.false c.write_over.ensures
 
-pub write-with-spec : {M : Type 1} → statement M
-write-with-spec =
+pub write_with_spec : {M : Type 1} → statement M
+write_with_spec =
     tie.close
     (tie.spec
     (λ c κs. search rules)
