@@ -4,8 +4,12 @@
 // `end`, or `malformed at PLACE` for the place where no element begins. The insides are not read.
 #![tactic(auto)]
 
-use libc::{STDIN_FILENO, STDOUT_FILENO};
 use tlv::{Place, Read};
+
+// Standard input and output, as file descriptors.
+const STDIN_FILENO: i32 = 0;
+
+const STDOUT_FILENO: i32 = 1;
 
 // What `io::large_buffer` holds. Of a longer input nothing is printed: its first part alone would mostly seem malformed.
 const LIMIT: usize = 65536;

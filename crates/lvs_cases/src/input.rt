@@ -3,7 +3,7 @@ ghost use Rattle.std.specs.Prelude.{◌≤◌, length};
 ghost use Rattle.io.specs.Counts.{IsPrefixLen};
 
 use crate::Buffer;
-use libc::STDIN_FILENO;
+use crate::STDIN_FILENO;
 
 // The bytes of the buffer from at to end are read and not taken yet.
 #[derive(Clone, Copy)]
@@ -62,11 +62,11 @@ fn read_ahead(space: &mut Buffer, input: Input) -> Input
     }
 }
 
-// One read, of as much as there is.
+// One read, of as much as fits.
 fn read_some(space: &mut Buffer) -> usize
     ensures { result ≤ 65536 }
 {
-    io::count(libc::read(STDIN_FILENO, space), space)
+    io::read_full(STDIN_FILENO, space)
 }
 
 // Takes a 4-byte length (high byte first) and that many bytes. A length above what part holds is not a whole field.

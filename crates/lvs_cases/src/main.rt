@@ -39,6 +39,11 @@ use input::Input;
 use pairs::Call;
 use turn::Turn;
 
+// Standard input and output, as file descriptors.
+const STDIN_FILENO: i32 = 0;
+
+const STDOUT_FILENO: i32 = 1;
+
 // The longest name.
 const NAME_BYTES: usize = 4096;
 

@@ -2,7 +2,7 @@
 ghost use Rattle.std.specs.Prelude.{◌≤◌, ◌<◌, length};
 
 use crate::Buffer;
-use libc::STDOUT_FILENO;
+use crate::STDOUT_FILENO;
 
 // Appends text, and answers how much is used then.
 pub fn put(out: &mut Buffer, used: usize, text: &[u8]) -> usize

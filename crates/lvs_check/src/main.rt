@@ -7,9 +7,16 @@
 ghost use Rattle.std.specs.Prelude.{◌≤◌};
 ghost use Rattle.io.specs.Counts.{IsPrefixLen};
 
-use libc::{STDIN_FILENO, STDOUT_FILENO};
 use lvs::SignAnswer;
 use lvs_verdict::Verdict;
+use std::fs::File;
+use std::io::Read;
+use std::rt::Files;
+
+// Standard input and output, as file descriptors.
+const STDIN_FILENO: i32 = 0;
+
+const STDOUT_FILENO: i32 = 1;
 
 // One byte more than a model may have: of a longer file the library refuses the length.
 const MODEL_BYTES: usize = 32769;
@@ -37,9 +44,9 @@ struct NameBytes {
     count: usize,
 }
 
-fn main() {
+fn main(rt: HostRuntime) {
     let mut model = [0u8; MODEL_BYTES];
-    let n = read_model(&mut model);
+    let n = read_model(&rt, &mut model);
     match lvs_verdict::judge_model(&model[..n]) {
         Verdict::Refused { number, at } => print_refused_model(number, at),
         Verdict::Accepted { nodes } => {
@@ -50,16 +57,28 @@ fn main() {
 }
 
 // A file that can't be opened counts as empty.
-fn read_model(space: &mut [u8]) -> usize
+fn read_model(rt: &impl Files, space: &mut [u8]) -> usize
     ensures { IsPrefixLen result space.new }
 {
-    let fd = os::open_read(b"model.lvs");
-    if fd < 0 {
-        return 0;
+    match File::open(rt, "model.lvs") {
+        Ok(file) => read_all(file, space),
+        Err(_) => 0,
     }
-    let n = io::read_full(fd, space);
-    libc::close(fd);
-    n
+}
+
+// As many bytes as the file has and the space holds. A read that fails ends it, like the end of the file.
+fn read_all(mut file: impl Read + Drop, space: &mut [u8]) -> usize
+    ensures { IsPrefixLen result space.new }
+{
+    let mut done = 0;
+    while done < space.len() {
+        let n = file.read(&mut space[done..]).unwrap_or(0);
+        if n == 0 {
+            return done;
+        }
+        done += n;
+    }
+    done
 }
 
 fn answer_requests(model: &[u8]) {

@@ -12,7 +12,7 @@ use Rattle.tlv.specs.Lists.{is_some}
 use Rattle.lvs_spec.specs.Model.{Model, edges, node_at, model_of}
 use Rattle.lvs_spec.specs.Names.{Component}
 use Rattle.lvs_spec.specs.Walk.{Match, Pair, pair_path, pairs, follow_pair}
-use Rattle.lvs_spec.specs.Answers.{Refusal, Inputs, inputs, Buffers, FollowAnswer, followed, follow_with}
+use Rattle.lvs_spec.specs.Answers.{Refusal, Inputs, Buffers, FollowAnswer, followed, follow_with}
 use Rattle.lvs_spec.specs.Answers.{follow_answer}
 use Rattle.lvs_spec.specs.Demands.{SignInputs, SomeAllowed, Followed, SomeFollowed, NoneFollowed, follow_refusals}
 use Rattle.lvs_spec.proofs.Lists.{clash}

@@ -9,7 +9,7 @@ use mathlib.Core.Option.{Option, none, some}
 use native.Mathlib.Omega.{arith}
 use lib.ListN.{length, length-map}
 use Rattle.tlv.specs.Bytes.{Bytes}
-use Rattle.tlv.specs.Element.{Element, first, Cuts, done, broken, next, cuts, pieces, element_bytes, encode, InRange, Each, nexts}
+use Rattle.tlv.specs.Element.{Element, Cuts, done, broken, next, cuts, pieces, element_bytes, encode, InRange, Each, nexts}
 use Rattle.tlv.specs.Lists.{first_index}
 use Rattle.tlv.specs.Lists as lists
 use Rattle.tlv.proofs.Bytes.{bytes_left, bytes_right}

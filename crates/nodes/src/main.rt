@@ -8,10 +8,14 @@ ghost use Rattle.std.specs.Prelude.{◌≡◌};
 ghost use Rattle.lvs_spec.specs.Types.{Node};
 ghost use Rattle.tlv_reader.specs.Count.{count_of};
 
-use libc::{STDIN_FILENO, STDOUT_FILENO};
 use lvs_spec::types;
 use tlv::Read;
 use tlv_reader::Count;
+
+// Standard input and output, as file descriptors.
+const STDIN_FILENO: i32 = 0;
+
+const STDOUT_FILENO: i32 = 1;
 
 fn main() {
     // twice what a model may have; of a longer input the rest is left unread

@@ -8,23 +8,23 @@ use Rattle.tlv.proofs.Cuts.{seen}
 use Rattle.elements.proofs.print_elements.Statement.{statement}
 use Rattle.elements.proofs.print_elements.Tie as tie
 
-abbrev invariant-loop : tie.invariant-loop
+abbrev invariant-loop : tie.invariant-loop-typ
 invariant-loop s place₀ place = Unit {0}
 
-abbrev decreases-loop : tie.decreases-loop
+abbrev decreases-loop : tie.decreases-loop-typ
 decreases-loop s place₀ place = length s - place.at
 
-loop-holds : tie.Need-loop-init invariant-loop decreases-loop
+loop-holds : tie.Need-loop-typ-init invariant-loop decreases-loop
 loop-holds c = tt
 
-loop-less : tie.Need-loop-smaller invariant-loop decreases-loop
-loop-less c = omega (arith, seen _ _ c.before.before.before.before.element.ensures c.before.before.typ.given.1)
+loop-less : tie.Need-loop-typ-smaller invariant-loop decreases-loop
+loop-less c = omega (arith, seen _ _ c.element.ensures c.in-Found.is)
 
-loop-again : tie.Need-loop-preserved invariant-loop decreases-loop
+loop-again : tie.Need-loop-typ-preserved invariant-loop decreases-loop
 loop-again c = tt
 
-pub print-elements-spec : {M : Type 1} → statement M
-print-elements-spec =
+pub print_elements_spec : {M : Type 1} → statement M
+print_elements_spec =
     tie.close
     (tie.spec
     invariant-loop

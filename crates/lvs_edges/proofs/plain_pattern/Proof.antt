@@ -1,7 +1,7 @@
 -- `lvs_edges::plain_pattern` meets its contract. Assumes nothing.
 use borrow.Author.Rules.{rules}
 use native.Mathlib.Omega.{arith}
-use borrow.Author.Tests.{eqb-true, not-false}
+use borrow.Author.Tests.{eqb-true}
 use Rattle.lvs_edges.proofs.Plain.{never}
 use Rattle.lvs_edges.proofs.plain_pattern.Statement.{statement}
 use Rattle.lvs_edges.proofs.plain_pattern.Tie as tie

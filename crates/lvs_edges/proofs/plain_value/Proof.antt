@@ -1,7 +1,7 @@
 -- `lvs_edges::plain_value` meets its contract. Assumes nothing.
 use borrow.Author.Rules.{rules}
 use native.Mathlib.Omega.{arith}
-use borrow.Author.Tests.{eqb-true, not-false}
+use borrow.Author.Tests.{eqb-true}
 use Rattle.lvs_edges.proofs.Plain.{never}
 use Rattle.lvs_edges.proofs.plain_value.Statement.{statement}
 use Rattle.lvs_edges.proofs.plain_value.Tie as tie

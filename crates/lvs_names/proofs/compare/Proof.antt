@@ -1,6 +1,5 @@
 -- `lvs_names::compare` meets its contract. Assumes nothing.
 use native.Mathlib.Omega.{arith}
-use borrow.Author.Tests.{not-true, not-false}
 use Rattle.tlv.specs.Bytes.{Bytes}
 use Rattle.lvs_names.proofs.Comparing.{headed, compared_shorter, compared_header, compared_equal, compared_unequal}
 use Rattle.lvs_names.proofs.compare.Statement.{statement}

@@ -7,30 +7,30 @@ use Rattle.tlv.proofs.Cuts.{seen}
 use Rattle.nodes.proofs.print_nodes.Statement.{statement}
 use Rattle.nodes.proofs.print_nodes.Tie as tie
 
-abbrev invariant-loop : tie.invariant-loop
+abbrev invariant-loop : tie.invariant-loop-typ
 invariant-loop model at₀ at = Unit {0}
 
-abbrev decreases-loop : tie.decreases-loop
+abbrev decreases-loop : tie.decreases-loop-typ
 decreases-loop model at₀ at = length model - at
 
-loop-holds : tie.Need-loop-init invariant-loop decreases-loop
+loop-holds : tie.Need-loop-typ-init invariant-loop decreases-loop
 loop-holds c = tt
 
-loop-less : tie.Need-loop-smaller invariant-loop decreases-loop
+loop-less : tie.Need-loop-typ-smaller-then-typ-eq-NODE invariant-loop decreases-loop
 loop-less c =
-    omega (arith, seen _ _ c.before.before.before.before.before.before.element-from.ensures c.before.before.before.before.typ.given.1)
+    omega (arith, seen _ _ c.element_from.ensures c.in-Found.is)
 
-loop-again : tie.Need-loop-preserved invariant-loop decreases-loop
+loop-again : tie.Need-loop-typ-preserved-then-typ-eq-NODE invariant-loop decreases-loop
 loop-again c = tt
 
-loop-less-2 : tie.Need-loop-smaller-2 invariant-loop decreases-loop
-loop-less-2 c = omega (arith, seen _ _ c.before.before.before.before.element-from.ensures c.before.before.typ.given.1)
+loop-less-2 : tie.Need-loop-typ-smaller invariant-loop decreases-loop
+loop-less-2 c = omega (arith, seen _ _ c.element_from.ensures c.in-Found.is)
 
-loop-again-2 : tie.Need-loop-preserved-2 invariant-loop decreases-loop
+loop-again-2 : tie.Need-loop-typ-preserved invariant-loop decreases-loop
 loop-again-2 c = tt
 
-pub print-nodes-spec : {M : Type 1} → statement M
-print-nodes-spec =
+pub print_nodes_spec : {M : Type 1} → statement M
+print_nodes_spec =
     tie.close
     (tie.spec
     invariant-loop

@@ -4,11 +4,11 @@ use borrow.Author.Rules.{rules}
 use Rattle.lvs_cases.proofs.comparing.compare_fields.Statement.{statement}
 use Rattle.lvs_cases.proofs.comparing.compare_fields.Tie as tie
 
-compare-requires : tie.Need-compare-requires
-compare-requires c κs = c.before.header-of2.ensures (omega (arith, c.if2.false))
+compare-requires : tie.Need-compare-compared-requires
+compare-requires c κs = c.header_of-header.ensures (omega (arith, c.if-header-eq0.false))
 
-pub compare-fields-spec : {M : Type 1} → statement M
-compare-fields-spec =
+pub compare_fields_spec : {M : Type 1} → statement M
+compare_fields_spec =
     tie.close
     (tie.spec
     (λ c κs. search rules)

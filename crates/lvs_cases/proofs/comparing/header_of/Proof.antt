@@ -14,25 +14,22 @@ use Rattle.lvs_cases.proofs.comparing.header_of.Tie as tie
 alone : (s : List ℕ) {header stop : ℕ} → RowStep s 0 header stop → stop ≡ length s → Alone s header
 alone s {header} {stop} f e = subst (λ (b : List ℕ). Alone b header) (take_all (stop - 0) s (omega arith)) f.alone
 
-returns : tie.Need-returns
+returns : tie.Need-returns-in_default
 returns c = λ some. absurd (omega (arith, some))
 
-returns-2 : tie.Need-returns-2
+returns-2 : tie.Need-returns-then-end-s
 returns-2 c = λ some. absurd (omega (arith, some))
 
-returns-3 : tie.Need-returns-3
+returns-3 : tie.Need-returns-then-component-gt-MAX_COMPONENT_TYPE
 returns-3 c = λ some. absurd (omega (arith, some))
 
-returns-4 : tie.Need-returns-4
+returns-4 : tie.Need-returns
 returns-4 c =
-    let whole = c.before.before.before in
-    let found = whole.before.before in
-    let read = found.before.before in
-    let s = read.before.before.args.s.now in
-    λ some. alone s (subst (ComponentAt s 0) found.header.given.1 read.component-at.ensures) whole.if1.false
+    let s = c.args.s.now in
+    λ some. alone s (subst (ComponentAt s 0) c.in-Component.is c.component_at.ensures) c.if-end-s.false
 
-pub header-of-spec : {M : Type 1} → statement M
-header-of-spec =
+pub header_of_spec : {M : Type 1} → statement M
+header_of_spec =
     tie.close
     (tie.spec
     (λ c κs. search rules)

@@ -7,16 +7,16 @@ use borrow.Author.Rules.{rules}
 use Rattle.lvs_cases.proofs.input.take.Tie as tie
 use Rattle.lvs_cases.proofs.input.take.Statement.{statement}
 
-abbrev invariant-loop : tie.invariant-loop
+abbrev invariant-loop : tie.invariant-loop-count
 invariant-loop space₀ part₀ input₀ count₀ space part input count = (input.end ≤ 65536) × (count ≤ length part) × (length part ≡ length part₀)
 
-abbrev decreases-loop : tie.decreases-loop
+abbrev decreases-loop : tie.decreases-loop-count
 decreases-loop space₀ part₀ input₀ count₀ space part input count = length part - count
 
-loop-less : tie.Need-loop-smaller invariant-loop decreases-loop
+loop-less : tie.Need-loop-count-smaller invariant-loop decreases-loop
 loop-less c = simp length-set (omega arith)
 
-loop-again : tie.Need-loop-preserved invariant-loop decreases-loop
+loop-again : tie.Need-loop-count-preserved invariant-loop decreases-loop
 loop-again c = (search rules, simp length-set (omega arith), simp length-set (omega arith))
 
 pub take_spec : {M : Type 1} → statement M

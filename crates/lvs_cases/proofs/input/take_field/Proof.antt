@@ -8,14 +8,14 @@ use Rattle.io.proofs.Counting.{prefix_len_of_le}
 use Rattle.lvs_cases.proofs.input.take_field.Tie as tie
 use Rattle.lvs_cases.proofs.input.take_field.Statement.{statement}
 
-slice-aggregate-take-2 : tie.Need-slice-aggregate-take-2
+slice-aggregate-take-2 : tie.Need-slice_bounds-take-end-3
 slice-aggregate-take-2 c = sym (length-take-le _ _ (search rules))
 
-returns-3 : tie.Need-returns-3
-returns-3 c = (prefix_len_of_le _ _ (simp length-append (omega (arith, c.before.before.before.take2.ensures.0))), search rules)
+returns-3 : tie.Need-returns
+returns-3 c = (prefix_len_of_le _ _ (simp length-append (omega (arith, c.take-inside.ensures.0))), search rules)
 
-pub take-field-spec : {M : Type 1} → statement M
-take-field-spec =
+pub take_field_spec : {M : Type 1} → statement M
+take_field_spec =
     tie.close
     (tie.spec
     (λ c. search rules)

@@ -5,10 +5,10 @@ use borrow.Author.Rules.{rules}
 use Rattle.lvs_cases.proofs.output.put.Tie as tie
 use Rattle.lvs_cases.proofs.output.put.Statement.{statement}
 
-abbrev invariant-loop : tie.invariant-loop
+abbrev invariant-loop : tie.invariant-loop-i
 invariant-loop out₀ used text at₀ i₀ out at i = at ≤ 65536
 
-abbrev decreases-loop : tie.decreases-loop
+abbrev decreases-loop : tie.decreases-loop-i
 decreases-loop out₀ used text at₀ i₀ out at i = length text - i
 
 pub put_spec : {M : Type 1} → statement M

@@ -5,14 +5,14 @@ use borrow.Author.Rules.{rules}
 use Rattle.lvs_cases.proofs.output.put_bytes.Tie as tie
 use Rattle.lvs_cases.proofs.output.put_bytes.Statement.{statement}
 
-abbrev invariant-loop : tie.invariant-loop
+abbrev invariant-loop : tie.invariant-loop-i
 invariant-loop out₀ used bytes at₀ i₀ out at i = at ≤ 65536
 
-abbrev decreases-loop : tie.decreases-loop
+abbrev decreases-loop : tie.decreases-loop-i
 decreases-loop out₀ used bytes at₀ i₀ out at i = length bytes - i
 
-pub put-bytes-spec : {M : Type 1} → statement M
-put-bytes-spec =
+pub put_bytes_spec : {M : Type 1} → statement M
+put_bytes_spec =
     tie.close
     (tie.spec
     invariant-loop

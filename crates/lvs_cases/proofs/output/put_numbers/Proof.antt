@@ -5,14 +5,14 @@ use borrow.Author.Rules.{rules}
 use Rattle.lvs_cases.proofs.output.put_numbers.Tie as tie
 use Rattle.lvs_cases.proofs.output.put_numbers.Statement.{statement}
 
-abbrev invariant-loop : tie.invariant-loop
+abbrev invariant-loop : tie.invariant-loop-i
 invariant-loop out₀ used numbers at₀ i₀ out at i = at ≤ 65536
 
-abbrev decreases-loop : tie.decreases-loop
+abbrev decreases-loop : tie.decreases-loop-i
 decreases-loop out₀ used numbers at₀ i₀ out at i = length numbers - i
 
-pub put-numbers-spec : {M : Type 1} → statement M
-put-numbers-spec =
+pub put_numbers_spec : {M : Type 1} → statement M
+put_numbers_spec =
     tie.close
     (tie.spec
     invariant-loop

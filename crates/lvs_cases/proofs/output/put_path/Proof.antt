@@ -5,14 +5,14 @@ use borrow.Author.Rules.{rules}
 use Rattle.lvs_cases.proofs.output.put_path.Tie as tie
 use Rattle.lvs_cases.proofs.output.put_path.Statement.{statement}
 
-abbrev invariant-loop : tie.invariant-loop
+abbrev invariant-loop : tie.invariant-loop-i
 invariant-loop out₀ used path at₀ i₀ out at i = at ≤ 65536
 
-abbrev decreases-loop : tie.decreases-loop
+abbrev decreases-loop : tie.decreases-loop-i
 decreases-loop out₀ used path at₀ i₀ out at i = length path - i
 
-pub put-path-spec : {M : Type 1} → statement M
-put-path-spec =
+pub put_path_spec : {M : Type 1} → statement M
+put_path_spec =
     tie.close
     (tie.spec
     invariant-loop

@@ -5,14 +5,14 @@ use borrow.Author.Rules.{rules}
 use Rattle.lvs_cases.proofs.output.put_words.Tie as tie
 use Rattle.lvs_cases.proofs.output.put_words.Statement.{statement}
 
-abbrev invariant-loop : tie.invariant-loop
+abbrev invariant-loop : tie.invariant-loop-i
 invariant-loop out₀ used words at₀ i₀ out at i = at ≤ 65536
 
-abbrev decreases-loop : tie.decreases-loop
+abbrev decreases-loop : tie.decreases-loop-i
 decreases-loop out₀ used words at₀ i₀ out at i = length words - i
 
-pub put-words-spec : {M : Type 1} → statement M
-put-words-spec =
+pub put_words_spec : {M : Type 1} → statement M
+put_words_spec =
     tie.close
     (tie.spec
     invariant-loop

@@ -8,17 +8,17 @@ use Rattle.io.proofs.Counting.{prefix_len_of_le}
 use Rattle.lvs_cases.proofs.words.read_numbers.Tie as tie
 use Rattle.lvs_cases.proofs.words.read_numbers.Statement.{statement}
 
-abbrev invariant-loop : tie.invariant-loop
+abbrev invariant-loop : tie.invariant-loop-i
 invariant-loop bytes numbers₀ n i₀ numbers i = (length numbers ≡ length numbers₀)
 
-abbrev decreases-loop : tie.decreases-loop
+abbrev decreases-loop : tie.decreases-loop-i
 decreases-loop bytes numbers₀ n i₀ numbers i = n - i
 
 returns : tie.Need-returns invariant-loop decreases-loop
 returns c = prefix_len_of_le _ _ (omega arith)
 
-pub read-numbers-spec : {M : Type 1} → statement M
-read-numbers-spec =
+pub read_numbers_spec : {M : Type 1} → statement M
+read_numbers_spec =
     tie.close
     (tie.spec
     invariant-loop

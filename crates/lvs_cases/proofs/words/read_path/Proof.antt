@@ -8,17 +8,17 @@ use Rattle.io.proofs.Counting.{prefix_len_of_le}
 use Rattle.lvs_cases.proofs.words.read_path.Tie as tie
 use Rattle.lvs_cases.proofs.words.read_path.Statement.{statement}
 
-abbrev invariant-loop : tie.invariant-loop
+abbrev invariant-loop : tie.invariant-loop-i
 invariant-loop bytes path₀ n i₀ path i = (length path ≡ length path₀)
 
-abbrev decreases-loop : tie.decreases-loop
+abbrev decreases-loop : tie.decreases-loop-i
 decreases-loop bytes path₀ n i₀ path i = n - i
 
 returns : tie.Need-returns invariant-loop decreases-loop
 returns c = prefix_len_of_le _ _ (omega arith)
 
-pub read-path-spec : {M : Type 1} → statement M
-read-path-spec =
+pub read_path_spec : {M : Type 1} → statement M
+read_path_spec =
     tie.close
     (tie.spec
     invariant-loop

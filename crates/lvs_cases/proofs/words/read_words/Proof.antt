@@ -8,17 +8,17 @@ use Rattle.io.proofs.Counting.{prefix_len_of_le}
 use Rattle.lvs_cases.proofs.words.read_words.Tie as tie
 use Rattle.lvs_cases.proofs.words.read_words.Statement.{statement}
 
-abbrev invariant-loop : tie.invariant-loop
+abbrev invariant-loop : tie.invariant-loop-i
 invariant-loop bytes words₀ n i₀ words i = (length words ≡ length words₀)
 
-abbrev decreases-loop : tie.decreases-loop
+abbrev decreases-loop : tie.decreases-loop-i
 decreases-loop bytes words₀ n i₀ words i = n - i
 
 returns : tie.Need-returns invariant-loop decreases-loop
 returns c = prefix_len_of_le _ _ (omega arith)
 
-pub read-words-spec : {M : Type 1} → statement M
-read-words-spec =
+pub read_words_spec : {M : Type 1} → statement M
+read_words_spec =
     tie.close
     (tie.spec
     invariant-loop
