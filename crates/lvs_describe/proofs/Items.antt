@@ -13,7 +13,7 @@ use Rattle.tlv.specs.Lists.{when, first, first_or}
 use Rattle.tlv.specs.Fields.{each_cut, inside_of, insides, number_of, integers, the_inside, the_integer}
 use Rattle.lvs_spec.specs.Types as type
 use Rattle.lvs_spec.specs.Leaves.{marked}
-use Rattle.lvs_spec.specs.Model.{Term, argument_of, term_from, option_of, constraint_of, value_edge_of, pattern_edge_of, node_of, symbol_of}
+use Rattle.lvs_spec.specs.Model.{argument_of, term_from, option_of, constraint_of, value_edge_of, pattern_edge_of, node_of, symbol_of}
 use Rattle.lvs_spec.proofs.Lists.{eqb_sym}
 use Rattle.lvs_description.specs.Format.{Lists, Format, integer, text, many, within}
 use Rattle.lvs_description.specs.Description.{argument, term, option, constraint, value_edge, pattern_edge, node, symbol}

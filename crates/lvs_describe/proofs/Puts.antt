@@ -7,7 +7,7 @@ use native.Mathlib.Numerals.{add-one}
 use native.Mathlib.Omega.{arith}
 use lib.ListN.{length, take, set, get_or, length-append, length-set}
 use lib.Seq.{take-suc-set, drop-set-lt, drop-drop, take_all, paste, paste-zero, paste-suc, take-paste, drop-paste}
-use Rattle.lvs_description.specs.Format.{Lists, put, put_text}
+use Rattle.lvs_description.specs.Format.{Lists, put_text}
 use Rattle.lvs_describe.specs.Parts.{nothing, joined, number, bytes}
 use Rattle.lvs_describe.specs.Lent.{Put, Lent, State, state, Describes, room_after, no_room}
 use Rattle.lvs_describe.specs.declared.Room.{Room}

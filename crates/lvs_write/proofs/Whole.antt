@@ -3,7 +3,7 @@ use mathlib.Core.Path.{◌≡◌, refl, sym, ap, subst, ◌∙◌}
 use mathlib.Core.Bool.{Bool, true, false}
 use mathlib.Core.List.{List, [], ◌∷◌}
 use mathlib.Core.Option.{none, some}
-use Prim.Native.Nat.{ℕ, ◌+◌, ◌-◌, ◌≤◌, ◌<◌}
+use Prim.Native.Nat.{ℕ, ◌+◌, ◌≤◌, ◌<◌}
 use native.Mathlib.Omega.{arith}
 use borrow.Author.Tests.{leb-false}
 use lib.Dec.{leb}
@@ -18,7 +18,7 @@ use Rattle.lvs_description.specs.Format.{Lists, Taken, holds}
 use Rattle.lvs_description.specs.Description.{model, model_bytes, nothing_left, description_of}
 use Rattle.lvs_write.specs.declared.Cursor.{Cursor}
 use Rattle.lvs_write.specs.declared.Size.{Size}
-use Rattle.lvs_write.specs.Spelled.{Bytes, spelled}
+use Rattle.lvs_write.specs.Spelled.{spelled}
 use Rattle.lvs_write.specs.Steps.{capped, lists_at, state_of, first, version_from, Writes, WritesVersion, size_of, Written}
 use Rattle.lvs_write.proofs.Sizes.{capped_is}
 use Rattle.lvs_write.proofs.Moves.{apart, state_ok, state_not, moved_none, moved_some, one_wrote}
