@@ -1,8 +1,5 @@
 // The element reader that keeps hold of the bytes and of its place in them. Any bytes and any place have an answer.
-//
-// The borrow checker covers no function over a struct that holds a reference: the three methods, and the two functions
-// that make a reader, are proved by hand. Each leaves the work to a covered function on the slice and the place, and a
-// caller of the two needs no such proof.
+// Each method leaves the work to a function on the slice and the place.
 #![tactic(auto)]
 
 ghost use Rattle.std.specs.Prelude.{◌≡◌};

@@ -51,8 +51,8 @@ loop-less c = let st = step c.before.before.before.before in omega arith
 loop-again : tie.Need-loop-typ-preserved-else-not-constraint_holds invariant-loop decreases-loop
 loop-again c =
     let d = c.before.before.before.before in
-    let e = read_found constraint_of type.Constraint (step d) c.if-typ-eq-CONSTRAINT.true in
-    all_later d.loop-typ.invariant e c.constraint_holds.ensures c.if-not-constraint_holds.false
+    let next = read_found constraint_of type.Constraint (step d) c.if-typ-eq-CONSTRAINT.true in
+    all_later d.loop-typ.invariant next c.constraint_holds.ensures c.if-not-constraint_holds.false
 
 loop-less-2 : tie.Need-loop-typ-smaller invariant-loop decreases-loop
 loop-less-2 c = let st = step c.before in omega arith
