@@ -14,7 +14,8 @@ use Rattle.lvs_spec.specs.Model.{model_of}
 use Rattle.lvs_spec.specs.Verdict.{Verdict, verdict}
 use Rattle.lvs_spec.specs.Names.{Component, bad_name, good_name, name_reading, packet_name}
 use Rattle.lvs_spec.specs.Walk.{Match, packet_matches, pairs}
-use Rattle.lvs_spec.specs.Answers.{MatchAnswer, plain, words, bound_count, match_refused, match_found, match_walked, match_room, match_name, match_in, match_outcome}
+use Rattle.lvs_spec.specs.Answers.{MatchAnswer, plain, words, bound_count, match_refused, match_found, match_walked, match_room, match_name, match_in}
+use Rattle.lvs_spec.specs.Answers.{match_outcome}
 use Rattle.lvs_spec.specs.Answers.{bad, good, inputs, SignAnswer, Buffers, sign_refused, pair_found, sign_room, sign_with, sign_outcome}
 use Rattle.lvs_spec.specs.Demands.{RoomFor}
 use Rattle.lvs_spec.specs.Certificates.{Entry, entries, ListReading, fit_entries, list_reading}

@@ -33,7 +33,8 @@ use Rattle.lvs_spec.specs.Answers.{tag_words, Outcome, match_refused, match_outc
 use Rattle.lvs_spec.specs.Certificates.{suggest_answer}
 use Rattle.lvs_spec.specs.Gaps.{bare, Inserted, gap_place, Stands}
 use Rattle.lvs_spec.specs.Demands.{model_refusals, match_refusals, follow_refusals, sign_refusals, suggest_refusals, SomeMatch, NoMatch}
-use Rattle.lvs_spec.specs.Demands.{words_at, StandsIn, Whose, FirstBound, ShortWords, ShortPath, SignRoom, SomeAllowed, NoneAllowed, SomeFollowed, NoneFollowed}
+use Rattle.lvs_spec.specs.Demands.{words_at, StandsIn, Whose, FirstBound, ShortWords, ShortPath, SignRoom, SomeAllowed, NoneAllowed, SomeFollowed}
+use Rattle.lvs_spec.specs.Demands.{NoneFollowed}
 use Rattle.lvs_spec.specs.Demands.{MalformedAt, FaultWithin, joined, FirstAllowed, NoCertificate, Alike, AllRefuse, unnamed, counted}
 use Rattle.lvs_spec.proofs.Refusals.{verdict_number, refused_malformed}
 use Rattle.lvs_spec.proofs.Reading.{malformed_refused, fault_within}
@@ -538,7 +539,8 @@ texts_change_nothing {a} {b} {i} {j} c d e =
 
 -- nor does a NamedPatternCnt of 128 or more, which makes every Tag named
 pub large_counts_alike : {a b : List ℕ} {i j : ℕ} → Judged a (verdicts.Accepted i) → Judged b (verdicts.Accepted j)
-    → max_tag ≤ (model_of a).pattern_count → max_tag ≤ (model_of b).pattern_count → counted max_tag (model_of a) ≡ counted max_tag (model_of b) → SameAnswers a b
+    → max_tag ≤ (model_of a).pattern_count → max_tag ≤ (model_of b).pattern_count → counted max_tag (model_of a) ≡ counted max_tag (model_of b)
+    → SameAnswers a b
 large_counts_alike {a} {b} {i} {j} c d l k e =
     same_answers (accepted_same a b i j (sym (judged_is c)) (sym (judged_is d)) (same_counts l k e))
 

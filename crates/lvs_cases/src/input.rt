@@ -2,8 +2,7 @@
 ghost use Rattle.std.specs.Prelude.{◌≤◌, length};
 ghost use Rattle.io.specs.Counts.{IsPrefixLen};
 
-use crate::Buffer;
-use crate::STDIN_FILENO;
+use crate::{Buffer, STDIN_FILENO};
 
 // The bytes of the buffer from at to end are read and not taken yet.
 #[derive(Clone, Copy)]

@@ -1,8 +1,7 @@
 // Standard output through a lent buffer, of which `used` bytes are not written yet.
 ghost use Rattle.std.specs.Prelude.{◌≤◌, ◌<◌, length};
 
-use crate::Buffer;
-use crate::STDOUT_FILENO;
+use crate::{Buffer, STDOUT_FILENO};
 
 // Appends text, and answers how much is used then.
 pub fn put(out: &mut Buffer, used: usize, text: &[u8]) -> usize

@@ -97,7 +97,10 @@ names_are =
 
 pub values_are : Row sort.ValueEdge (within type.ValueEdge value_edge) (λ b. map value_edge_of (insides type.ValueEdge b))
 unfolding is_of item_of shown
-values_are = record { is = row_is sort.ValueEdge type.ValueEdge _ value_edge_of (λ u. refl) (λ u b. refl) (within_appended value_edge_appended type.ValueEdge) }
+values_are = record {
+  is = row_is sort.ValueEdge type.ValueEdge _ value_edge_of (λ u. refl) (λ u b. refl)
+      (within_appended value_edge_appended type.ValueEdge);
+}
 
 pub patterns_are : Row sort.PatternEdge (within type.PatternEdge pattern_edge) (λ b. map pattern_edge_of (insides type.PatternEdge b))
 unfolding is_of item_of shown

@@ -5,7 +5,8 @@ use Rattle.tlv.specs.Fields.{each_cut, number_of, integers, the_integer}
 use Rattle.tlv.specs.Lists.{when, first}
 use Rattle.lvs_spec.specs.Types as type
 use Rattle.lvs_spec.specs.Leaves.{marked}
-use Rattle.lvs_spec.specs.Model.{Term as ModelTerm, component_of, call_of, argument_of, option_of, constraint_of, value_edge_of, pattern_edge_of, node_of, symbol_of}
+use Rattle.lvs_spec.specs.Model.{Term as ModelTerm, component_of, call_of, argument_of, option_of, constraint_of, value_edge_of, pattern_edge_of, node_of}
+use Rattle.lvs_spec.specs.Model.{symbol_of}
 use Rattle.lvs_description.specs.Format.{Lists, put, integer, text, maybe}
 use Rattle.lvs_description.specs.Description.{argument, term, option, constraint, value_edge, pattern_edge, node, symbol}
 use Rattle.lvs_describe.specs.Parts.{shown, row}

@@ -17,7 +17,7 @@ use lvs_spec::types::{
 use tlv::{Place, Read};
 
 // The elements of one sort in `s`: how many there are, and each.
-#[cycle(put_call_put_counted_put_item_put_node_put_pattern_edge_put_row)]
+#[cycle(puts)]
 pub(crate) fn put_row(
     s: &[u8],
     sort: Sort,
@@ -33,7 +33,7 @@ pub(crate) fn put_row(
 }
 
 // The same where they are counted already. Where there are none, `s` is not gone through.
-#[cycle(put_call_put_counted_put_item_put_node_put_pattern_edge_put_row)]
+#[cycle(puts)]
 fn put_counted(
     s: &[u8],
     sort: Sort,
@@ -71,7 +71,7 @@ fn put_counted(
 }
 
 // One element of type `typ`; `b` is its inside.
-#[cycle(put_call_put_counted_put_item_put_node_put_pattern_edge_put_row)]
+#[cycle(puts)]
 fn put_item(
     b: &[u8],
     typ: u32,
@@ -102,7 +102,7 @@ fn put_item(
     }
 }
 
-#[cycle(put_call_put_counted_put_item_put_node_put_pattern_edge_put_row)]
+#[cycle(puts)]
 fn put_node(b: &[u8], numbers: &mut [u64], texts: &mut [u8], room: Room) -> Room
     ensures { Describes (shown node (node_of b.now))
         (state room numbers.old texts.old) (state result numbers.new texts.new) }
@@ -116,7 +116,7 @@ fn put_node(b: &[u8], numbers: &mut [u64], texts: &mut [u8], room: Room) -> Room
 }
 
 // Its Constraints are looked for behind the fields that are read already, where there is anything.
-#[cycle(put_call_put_counted_put_item_put_node_put_pattern_edge_put_row)]
+#[cycle(puts)]
 fn put_pattern_edge(b: &[u8], numbers: &mut [u64], texts: &mut [u8], room: Room) -> Room
     ensures { Describes (shown pattern_edge (pattern_edge_of b.now))
         (state room numbers.old texts.old) (state result numbers.new texts.new) }
@@ -131,7 +131,7 @@ fn put_pattern_edge(b: &[u8], numbers: &mut [u64], texts: &mut [u8], room: Room)
 }
 
 // As a term: 2 and the UserFnCall.
-#[cycle(put_call_put_counted_put_item_put_node_put_pattern_edge_put_row)]
+#[cycle(puts)]
 fn put_call(b: &[u8], numbers: &mut [u64], texts: &mut [u8], room: Room) -> Room
     ensures { Describes (put 2 (shown call (call_of b.now)))
         (state room numbers.old texts.old) (state result numbers.new texts.new) }

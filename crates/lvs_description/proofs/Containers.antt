@@ -17,7 +17,8 @@ use Rattle.lvs_spec.specs.Grammar.{Kind, Leaf, Item, meaning, lookup, known_type
 use Rattle.lvs_spec.specs.Leaves.{identifier, marked, leaf_in, text_in}
 use Rattle.lvs_spec.specs.WellFormed.{inside_ok, well_formed_by, this_version}
 use Rattle.lvs_spec.specs.Model.{Argument, Term}
-use Rattle.lvs_spec.specs.Model.{component_of, argument_from, argument_of, call_of, term_from, option_of, constraint_of, value_edge_of, pattern_edge_of, node_of}
+use Rattle.lvs_spec.specs.Model.{component_of, argument_from, argument_of, call_of, term_from, option_of, constraint_of, value_edge_of, pattern_edge_of}
+use Rattle.lvs_spec.specs.Model.{node_of}
 use Rattle.lvs_spec.specs.Model.{symbol_of, model_of}
 use Rattle.lvs_description.specs.Format.{Format, integer_bytes, holds, integer, text, component, within, behind}
 use Rattle.lvs_description.specs.Description as description

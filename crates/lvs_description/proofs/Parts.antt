@@ -109,7 +109,8 @@ module _ {inner : Kind → List ℕ → Bool} {k : Kind} where
         }
 
     -- at most once
-    pub maybe_part : {left : List Item} → step left t ≡ none → Part inner k (the t) (grammar.maybe (the t) ∷ left) left (maybe g) (λ F. first_of (map of (F t)))
+    pub maybe_part : {left : List Item} → step left t ≡ none
+        → Part inner k (the t) (grammar.maybe (the t) ∷ left) left (maybe g) (λ F. first_of (map of (F t)))
     unfolding step encode
     maybe_part {left} n = record { laid = laid; formed_is = formed_is; foreign = foreign; back = back; kept = λ F G. kept (F t) (cell_fine G) }
       where

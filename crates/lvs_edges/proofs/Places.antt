@@ -51,7 +51,8 @@ module _ (places : List ℕ) (n x y : ℕ) where
   unfolding part_at
   part_other v e =
       let a : get_or written (v * 2) 0 ≡ get_or places (v * 2) 0 =
-      get_or-set_other (set places (n * 2) x) (n * 2 + 1) (v * 2) y 0 (λ q. omega arith) ∙ get_or-set_other places (n * 2) (v * 2) x 0 (λ q. e (omega arith)) in
+      get_or-set_other (set places (n * 2) x) (n * 2 + 1) (v * 2) y 0 (λ q. omega arith) ∙ get_or-set_other places (n * 2) (v * 2) x 0
+      (λ q. e (omega arith)) in
       let b : get_or written (v * 2 + 1) 0 ≡ get_or places (v * 2 + 1) 0 =
       get_or-set_other (set places (n * 2) x) (n * 2 + 1) (v * 2 + 1) y 0 (λ q. e (omega arith)) ∙
       get_or-set_other places (n * 2) (v * 2 + 1) x 0 (λ q. omega arith) in

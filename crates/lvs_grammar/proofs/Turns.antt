@@ -114,7 +114,8 @@ module _ (n : ℕ) (k : Kind) (q : ℕ) (s : List ℕ) (at : ℕ) {r : Read} (e 
         pub plain_on : o ≡ none → fault_after n k q s at ≡ fault_after n k q' s p.at
         plain_on v = inside_on j held v
 
-      module _ {q' : ℕ} (j : x ≡ State q') {y : kinds.Kind} (u : w ≡ Container y) {o : Option ℕ} (l : o ≡ fault_by n (kind_of y) (take (b - a) (drop a s))) where
+      module _ {q' : ℕ} (j : x ≡ State q') {y : kinds.Kind} (u : w ≡ Container y) {o : Option ℕ}
+          (l : o ≡ fault_by n (kind_of y) (take (b - a) (drop a s))) where
         entered : from a o ≡ inside_fault (fault_by n) k (known_of w) at a (take (b - a) (drop a s))
         unfolding inside_fault
         entered = rw u (ap (from a) l)

@@ -87,7 +87,8 @@ module _ {s c : List ℕ} {header : ℕ} (H : Headed s c header) where
   pub first_differs : (get_or s 0 0 ≡ get_or c 0 0 → ⊥) → false ≡ same_bytes (take header s) (take header c)
   first_differs n = sym (by_two ∙ rw (ne_eqb _ _ n))
 
-  pub two_agree : get_or s 0 0 ≡ get_or c 0 0 → get_or s 1 0 ≡ get_or c 1 0 → {t : Bool} → t ≡ same_bytes (take (header - 2) (drop 2 s)) (take (header - 2) (drop 2 c))
+  pub two_agree : get_or s 0 0 ≡ get_or c 0 0 → get_or s 1 0 ≡ get_or c 1 0 → {t : Bool}
+      → t ≡ same_bytes (take (header - 2) (drop 2 s)) (take (header - 2) (drop 2 c))
       → t ≡ same_bytes (take header s) (take header c)
   two_agree p q r = r ∙ sym (by_two ∙ rw (eq-eqb _ _ p, eq-eqb _ _ q))
 

@@ -85,7 +85,8 @@ term_parts e =
     (rw (tag_part x (eqb type.Tag e.type), call_part x (eqb type.UserFnCall e.type)))
 
 terms_parts : (c : Cuts)
-    → least_of term_rule (each_cut term_from c) ≡ min (least_of tag_in (each_cut (inside_of type.Tag) c)) (least_of call_in (each_cut (inside_of type.UserFnCall) c))
+    → least_of term_rule (each_cut term_from c) ≡ min (least_of tag_in (each_cut (inside_of type.Tag) c))
+    (least_of call_in (each_cut (inside_of type.UserFnCall) c))
 unfolding each_cut least_of
 terms_parts done = refl
 terms_parts torn = refl

@@ -11,7 +11,8 @@ use lib.Dec.{leb, eqb}
 use Rattle.lvs_spec.proofs.Grammar.{both}
 use Rattle.tlv.specs.Lists.{any}
 use Rattle.lvs_spec.specs.Model.{Model, Node, Symbol, ConstraintOption, Call}
-use Rattle.lvs_spec.specs.Verdict.{Test, whole, some_tag, some_node, some_destination, some_signer, some_option, some_call, node_tags, destinations, options, calls}
+use Rattle.lvs_spec.specs.Verdict.{Test, whole, some_tag, some_node, some_destination, some_signer, some_option, some_call, node_tags, destinations, options}
+use Rattle.lvs_spec.specs.Verdict.{calls}
 use Rattle.lvs_rules.specs.Lowest.{no_rule, least_of}
 
 -- ---- what a test asks of each kind of part, and whether a fault in a Node names it

@@ -212,7 +212,8 @@ module _ (b packet key : List ℕ) {m : Model} (used : usable_model b ≡ usable
   unfolding signs
   some_signs s = let (x, y, e) = (sign_some b packet key roomy).1 (s, roomy_enough packet key) in ap is_allowed (sym answer_is ∙ e)
 
-  signs_none : {ps ks : List Component} → packet_name packet ≡ good_name ps → key_name key ≡ good_name ks → signs m packet key ≡ false → NoneAllowed b packet key
+  signs_none : {ps ks : List Component} → packet_name packet ≡ good_name ps → key_name key ≡ good_name ks → signs m packet key ≡ false
+      → NoneAllowed b packet key
   unfolding signs pair_found
   signs_none {ps} {ks} p k h =
       go (lists.first (pairs m ps ks)) (ap (λ (o : SignOutcome). o.answer) (signs_first m packet key roomy p k ((roomy_enough packet key).enough ps ks p k)))

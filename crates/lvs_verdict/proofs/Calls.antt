@@ -49,7 +49,8 @@ module _ (b packet key : List ℕ) where
       unfolding input_names
       inputs_bad_key h = named ∙ rw (← good-packet, ← h)
 
-      pub inputs_both : (k : ℕ) → good_name (row_from key k) ≡ name_reading 24 key → inputs b packet key ≡ good (model_of b) (row_from packet p) (row_from key k)
+      pub inputs_both : (k : ℕ) → good_name (row_from key k) ≡ name_reading 24 key
+          → inputs b packet key ≡ good (model_of b) (row_from packet p) (row_from key k)
       unfolding input_names
       inputs_both k h = named ∙ rw (← good-packet, ← h)
 

@@ -14,7 +14,8 @@ use Rattle.lvs_spec.specs.Types as type
 use Rattle.lvs_spec.specs.Leaves.{marked, identifier}
 use Rattle.lvs_spec.specs.Model.{Argument, Term}
 use Rattle.lvs_description.specs.Format.{Lists, Taken, take_number, Format, integer, text, component, ◌then◌, many, maybe_from, maybe, within}
-use Rattle.lvs_description.specs.Description.{argument_from, argument, call, term_from, term, option, constraint, value_edge, pattern_edge, node, symbol, model}
+use Rattle.lvs_description.specs.Description.{argument_from, argument, call, term_from, term, option, constraint, value_edge, pattern_edge, node, symbol}
+use Rattle.lvs_description.specs.Description.{model}
 use Rattle.lvs_write.specs.declared.Container.{Container}
 use Rattle.lvs_write.specs.declared.Part.{Part}
 use Rattle.lvs_write.specs.Spelled.{Bytes, spelled, text_from, after, wrapped, type_of, counted, inside_from, nested_from, part_from}
@@ -93,7 +94,8 @@ node_parts l =
     (both_parts (maybe (integer type.Parent)) _ (as_it_is _)
     (both_parts (many (text type.Identifier (marked 35))) _ (many_of _ rule_name_part)
     (both_parts (many (within type.ValueEdge value_edge)) _ (many_of _ value_edge_part)
-    (both_parts (many (within type.PatternEdge pattern_edge)) (many (integer type.SignConstraint)) (many_of _ pattern_edge_part) (many_of _ signer_part))))) l ∙
+    (both_parts (many (within type.PatternEdge pattern_edge)) (many (integer type.SignConstraint)) (many_of _ pattern_edge_part)
+    (many_of _ signer_part))))) l ∙
     under_spelled _ (λ n. (n.id, (n.parent, (n.rule_names, (n.value_edges, (n.pattern_edges, n.signers)))))) _ (λ a. refl) l
 
 pub symbol_parts : Same (spelled (integer type.Tag) ⨾ text_from type.Identifier) (spelled symbol)

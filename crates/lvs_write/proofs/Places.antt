@@ -310,7 +310,8 @@ module _ (ns ts : List ℕ) (s : Cursor) {next : Cursor} {n start : ℕ} (T : To
   unfolding taken_by take_text bytes_of
   text_long {r} h e = record { taken = took_chosen bytes_of (T ts) (record { is = go next.ok refl }); order = omega arith; within = omega arith }
     where
-      go : (t : Bool) → next.ok ≡ t → bind (state_of ns ts r) (λ x. some (take (start - start) (drop start ts), x)) ≡ taken_by (bytes_of n) (state_of ns ts next)
+      go : (t : Bool) → next.ok ≡ t → bind (state_of ns ts r) (λ x. some (take (start - start) (drop start ts), x)) ≡ taken_by (bytes_of n)
+          (state_of ns ts next)
       go true p = rw (state_not ns ts r e, state_ok ns ts next p, drop-least ts next.text least, lt-leb n (length (drop start ts)) (simp length-drop h))
       go false p = rw (state_not ns ts r e, state_not ns ts next p)
 

@@ -21,7 +21,7 @@ use lvs_spec::types::{
 const SHORT: usize = 252;
 
 // How many there are, and each.
-#[cycle(attempt_write_call_write_inside_write_many_write_nested_write_node_write_part_write_pattern_edge_write_term)]
+#[cycle(writes)]
 pub(crate) fn write_many(
     part: Part,
     numbers: &[u64],
@@ -44,7 +44,7 @@ pub(crate) fn write_many(
     c
 }
 
-#[cycle(attempt_write_call_write_inside_write_many_write_nested_write_node_write_part_write_pattern_edge_write_term)]
+#[cycle(writes)]
 fn write_part(part: Part, numbers: &[u64], texts: &[u8], out: &mut [u8], s: Cursor) -> Cursor
     ensures { Writes (part_from part) numbers.now texts.now out.old out.new s result }
 {
@@ -59,7 +59,7 @@ fn write_part(part: Part, numbers: &[u64], texts: &[u8], out: &mut [u8], s: Curs
 
 // A container. Where its inside belongs depends on the header, and that on how many bytes there are. So it is first written behind a header of two
 // bytes, where nearly all belong; one with more bytes is written again behind its longer header, over all that was put too early.
-#[cycle(attempt_write_call_write_inside_write_many_write_nested_write_node_write_part_write_pattern_edge_write_term)]
+#[cycle(writes)]
 fn write_nested(
     container: Container,
     numbers: &[u64],
@@ -91,7 +91,7 @@ fn write_nested(
 }
 
 // The inside of the container at s, behind a header of two bytes that is still to be put, and lent only as many bytes as such a header can say.
-#[cycle(attempt_write_call_write_inside_write_many_write_nested_write_node_write_part_write_pattern_edge_write_term)]
+#[cycle(writes)]
 fn attempt(container: Container, numbers: &[u64], texts: &[u8], out: &mut [u8], s: Cursor) -> Cursor
     ensures { WritesEarly (inside_from container) numbers.now texts.now out.old out.new s result }
 {
@@ -138,7 +138,7 @@ fn type_of(container: Container) -> u32
     }
 }
 
-#[cycle(attempt_write_call_write_inside_write_many_write_nested_write_node_write_part_write_pattern_edge_write_term)]
+#[cycle(writes)]
 fn write_inside(
     container: Container,
     numbers: &[u64],
@@ -165,7 +165,7 @@ fn write_inside(
     }
 }
 
-#[cycle(attempt_write_call_write_inside_write_many_write_nested_write_node_write_part_write_pattern_edge_write_term)]
+#[cycle(writes)]
 fn write_node(numbers: &[u64], texts: &[u8], out: &mut [u8], s: Cursor) -> Cursor
     ensures { Writes (spelled node) numbers.now texts.now out.old out.new s result }
 {
@@ -197,7 +197,7 @@ fn write_parent(numbers: &[u64], out: &mut [u8], s: Cursor) -> Cursor
     }
 }
 
-#[cycle(attempt_write_call_write_inside_write_many_write_nested_write_node_write_part_write_pattern_edge_write_term)]
+#[cycle(writes)]
 fn write_pattern_edge(numbers: &[u64], texts: &[u8], out: &mut [u8], s: Cursor) -> Cursor
     ensures { Writes (spelled pattern_edge) numbers.now texts.now out.old out.new s result }
 {
@@ -212,7 +212,7 @@ fn write_pattern_edge(numbers: &[u64], texts: &[u8], out: &mut [u8], s: Cursor) 
 }
 
 // 0 and a Value, 1 and a Tag, or 2 and a UserFnCall.
-#[cycle(attempt_write_call_write_inside_write_many_write_nested_write_node_write_part_write_pattern_edge_write_term)]
+#[cycle(writes)]
 fn write_term(numbers: &[u64], texts: &[u8], out: &mut [u8], s: Cursor) -> Cursor
     ensures { Writes (spelled term) numbers.now texts.now out.old out.new s result }
 {
@@ -227,7 +227,7 @@ fn write_term(numbers: &[u64], texts: &[u8], out: &mut [u8], s: Cursor) -> Curso
     }
 }
 
-#[cycle(attempt_write_call_write_inside_write_many_write_nested_write_node_write_part_write_pattern_edge_write_term)]
+#[cycle(writes)]
 fn write_call(numbers: &[u64], texts: &[u8], out: &mut [u8], s: Cursor) -> Cursor
     ensures { Writes (spelled call) numbers.now texts.now out.old out.new s result }
 {

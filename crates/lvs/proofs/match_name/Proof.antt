@@ -64,14 +64,17 @@ returns-3 c =
 returns-4 : tie.Need-returns-in-Nothing
 returns-4 c =
     let a = (began c.before.before.before.before.before.before.before).args in
-    sym (match_none a.model.now a.name.now a.buffer.now (accepted (judged c.before.before.before.before.before.before.before)) (good c.before.before.before.before.before.before.before) c.if-buffer-lt-BINDING_WORDS.false
+    sym (match_none a.model.now a.name.now a.buffer.now (accepted (judged c.before.before.before.before.before.before.before))
+    (good c.before.before.before.before.before.before.before) c.if-buffer-lt-BINDING_WORDS.false
     (found_none c.find_match.ensures c.in-Nothing.is))
 
 returns-5 : tie.Need-returns-in-At
 returns-5 c =
     let a = (began c.before.before.before.before.before.before.before.before.before.before.before.before).args in
     let w = c.write_words.ensures in
-    match_some a.model.now a.name.now a.buffer.now (accepted (judged c.before.before.before.before.before.before.before.before.before.before.before.before)) (good c.before.before.before.before.before.before.before.before.before.before.before.before) c.if-buffer-lt-BINDING_WORDS.false
+    match_some a.model.now a.name.now a.buffer.now (accepted (judged
+    c.before.before.before.before.before.before.before.before.before.before.before.before))
+    (good c.before.before.before.before.before.before.before.before.before.before.before.before) c.if-buffer-lt-BINDING_WORDS.false
     (found_match c.find_match.ensures c.in-At.is) (w.counted []) (w.words_are [])
 
 pub match_name_spec : {M : Type 1} → statement M

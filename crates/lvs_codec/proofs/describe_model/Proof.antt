@@ -22,13 +22,15 @@ returns c =
 returns-2 : tie.Need-returns-in-TooShort
 returns-2 c =
     let a = (start (judged c.before.before.before.before.before)).args in
-    lists_short a.model.now a.numbers.now a.texts.now (judged c.before.before.before.before.before).judge_model.ensures (accepted c.before.before.before.before.before).in_default.is c.describe.ensures
+    lists_short a.model.now a.numbers.now a.texts.now (judged c.before.before.before.before.before).judge_model.ensures
+    (accepted c.before.before.before.before.before).in_default.is c.describe.ensures
     c.in-TooShort.is
 
 returns-3 : tie.Need-returns-in-Of
 returns-3 c =
     let a = (start (judged c.before.before.before.before.before)).args in
-    lists_put a.model.now a.numbers.now a.texts.now (judged c.before.before.before.before.before).judge_model.ensures (accepted c.before.before.before.before.before).in_default.is c.describe.ensures
+    lists_put a.model.now a.numbers.now a.texts.now (judged c.before.before.before.before.before).judge_model.ensures
+    (accepted c.before.before.before.before.before).in_default.is c.describe.ensures
     c.in-Of.is
 
 pub describe_model_spec : {M : Type 1} → statement M

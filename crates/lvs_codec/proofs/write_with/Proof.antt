@@ -26,7 +26,8 @@ write-over-requires c κs =
 
 returns-2 : tie.Need-returns
 returns-2 c =
-    on_the_front (start c.before.before.before.before.before.before).requires (start c.before.before.before.before.before.before).args.output.now (room c.before.before.before.before.before.before).if-output-size.false c.write_over.ensures
+    on_the_front (start c.before.before.before.before.before.before).requires (start c.before.before.before.before.before.before).args.output.now
+    (room c.before.before.before.before.before.before).if-output-size.false c.write_over.ensures
 
 pub write_with_spec : {M : Type 1} → statement M
 write_with_spec =

@@ -103,7 +103,14 @@ step-requires c κs =
     let s = began l in
     let count = (named l).number_in-named.ensures in (
       s.requires.nodes,
-      (count, record { room = l.loop-header.invariant.room; only_named = rw count l.loop-header.invariant.only_named; stands = (here c.before.before.before).stands }),
+      (
+        count,
+        record {
+          room = l.loop-header.invariant.room;
+          only_named = rw count l.loop-header.invariant.only_named;
+          stands = (here c.before.before.before).stands;
+        },
+      ),
     )
 
 -- the component's place, from a step

@@ -45,13 +45,15 @@ follow-name-requires-2 c κs =
 returns-2 : tie.Need-returns-in_default-follow_name
 returns-2 c =
     let a = (began c.before.before.before.before.before.before).args in
-    key_nowhere (model_of a.model.now) a.packet.now a.key.now a.path.now a.p a.k (began c.before.before.before.before.before.before).requires.0.packet_row.count refl
+    key_nowhere (model_of a.model.now) a.packet.now a.key.now a.path.now a.p a.k
+    (began c.before.before.before.before.before.before).requires.0.packet_row.count refl
     c.follow_name.ensures c.in-At.is (to_end a.path.now a.p.count) c.follow_name-2.ensures c.in_default-follow_name.is
 
 returns-3 : tie.Need-returns
 returns-3 c =
     let a = (began c.before.before.before.before.before.before.before.before).args in
-    arrives (model_of a.model.now) a.packet.now a.key.now a.path.now a.p a.k (began c.before.before.before.before.before.before.before.before).requires.0.packet_row.count refl
+    arrives (model_of a.model.now) a.packet.now a.key.now a.path.now a.p a.k
+    (began c.before.before.before.before.before.before.before.before).requires.0.packet_row.count refl
     c.follow_name.ensures c.in-At.is (to_end a.path.now a.p.count) c.follow_name-2.ensures c.in-At-follow_name.is c.lists_node.ensures
 
 pub follow_pair_spec : {M : Type 1} → statement M

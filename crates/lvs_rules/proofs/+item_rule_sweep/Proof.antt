@@ -148,7 +148,8 @@ sweep-Inv-loop s sort n wanted rule₀ place₀ rule place =
 abbrev sweep-μ-loop : sweep-lts.decreases-loop-typ
 sweep-μ-loop s sort n wanted rule₀ place₀ rule place = length s - place.at
 
-abbrev sweep-need : (sweep-lts.Claims → In 1 sweep-kinds.ps → Out 1 sweep-kinds.ps sweep-kinds.r → sweep-lts.invariant-loop-typ → sweep-lts.decreases-loop-typ → Type 0)
+abbrev sweep-need : (sweep-lts.Claims → In 1 sweep-kinds.ps → Out 1 sweep-kinds.ps sweep-kinds.r → sweep-lts.invariant-loop-typ
+    → sweep-lts.decreases-loop-typ → Type 0)
     → ℕ → Type 0
 sweep-need N t = N (sweep-calls t) (sweep-at t) sweep.Post sweep-Inv-loop sweep-μ-loop
 

@@ -80,7 +80,8 @@ abbrev μ : walk-lts.decreases-loop-pattern
 μ model places named packet key goal node at depth slots₀ path₀ header end c text a b edges from₀ ordinal₀ slots path from ordinal = length edges - from
 
 -- a need, or a place of the code, with all this
-abbrev at : (walk-lts.Claims → In 5 walk-kinds.ps → Out 5 walk-kinds.ps walk-kinds.r → walk-lts.invariant-loop-pattern → walk-lts.decreases-loop-pattern → Type 0) → ℕ → Type 0
+abbrev at : (walk-lts.Claims → In 5 walk-kinds.ps → Out 5 walk-kinds.ps walk-kinds.r → walk-lts.invariant-loop-pattern
+    → walk-lts.decreases-loop-pattern → Type 0) → ℕ → Type 0
 at N t = N (calls t) (walk_at t) walk.Post Inv μ
 
 -- ---- names for places of the code, and what is known there
@@ -245,7 +246,11 @@ part-cross-end t c =
 
 cross-requires : (t : ℕ) → at walk-lts.Need-cross-crossing-requires t
 cross-requires t c κs =
-    record { room = c.loop-pattern.invariant.room; only_named = turn_named c.loop-pattern.invariant; stands = (here t (node t c.before.before.before.before).before).stands }
+    record {
+      room = c.loop-pattern.invariant.room;
+      only_named = turn_named c.loop-pattern.invariant;
+      stands = (here t (node t c.before.before.before.before).before).stands;
+    }
 
 -- the edge is shut
 loop-less-2 : (t : ℕ) → at walk-lts.Need-loop-pattern-smaller t
@@ -256,7 +261,8 @@ loop-less-2 t c =
 
 loop-again-2 : (t : ℕ) → at walk-lts.Need-loop-pattern-preserved t
 loop-again-2 t c =
-    turn_shut (turn t c.before).loop-pattern.invariant (edge t c.before).edge_from.ensures (edge t c.before).in-Edge.is c.cross-crossing.ensures c.in_default-crossing.is
+    turn_shut (turn t c.before).loop-pattern.invariant (edge t c.before).edge_from.ensures (edge t c.before).in-Edge.is c.cross-crossing.ensures
+    c.in_default-crossing.is
 
 -- it leads on
 add-walk : (t : ℕ) → at walk-lts.Need-overflow_add-depth t
@@ -284,12 +290,16 @@ walk-requires-2 t c κs =
 
 put-word-requires : (t : ℕ) → at walk-lts.Need-put_word-requires t
 put-word-requires t c κs =
-    let low = ordinal_low (turn t c.before.before.before.before.before.before.before.before).loop-pattern.invariant (edge t c.before.before.before.before.before.before.before.before).edge_from.ensures (edge t c.before.before.before.before.before.before.before.before).in-Edge.is in
+    let low = ordinal_low (turn t c.before.before.before.before.before.before.before.before).loop-pattern.invariant
+    (edge t c.before.before.before.before.before.before.before.before).edge_from.ensures
+    (edge t c.before.before.before.before.before.before.before.before).in-Edge.is in
     omega (arith, low)
 
 same-length-3 : (t : ℕ) → at walk-lts.Need-shape_of-path-in-At t
 same-length-3 t c =
-    length-first (turn_found (turn t c.before.before.before.before.before.before.before.before.before.before.before).loop-pattern.invariant (edge t c.before.before.before.before.before.before.before.before.before.before.before).edge_from.ensures (edge t c.before.before.before.before.before.before.before.before.before.before.before).in-Edge.is c.cross-crossing.ensures
+    length-first (turn_found (turn t c.before.before.before.before.before.before.before.before.before.before.before).loop-pattern.invariant
+    (edge t c.before.before.before.before.before.before.before.before.before.before.before).edge_from.ensures
+    (edge t c.before.before.before.before.before.before.before.before.before.before.before).in-Edge.is c.cross-crossing.ensures
     c.in-Open.is c.walk-r.ensures c.in-At.is c.put_word.ensures)
 
 returns-5 : (t : ℕ) → at walk-lts.Need-returns-in-At t
@@ -298,7 +308,8 @@ returns-5 t c =
     let s = began t l in
     begun s.args.model.now s.args.named s.args.node s.args.depth s.args.slots.now s.args.path.now s.args.goal
     (here t (node t l).before)
-    (turn_found l.loop-pattern.invariant (edge t c.before.before.before.before.before.before.before.before.before.before.before).edge_from.ensures (edge t c.before.before.before.before.before.before.before.before.before.before.before).in-Edge.is c.cross-crossing.ensures
+    (turn_found l.loop-pattern.invariant (edge t c.before.before.before.before.before.before.before.before.before.before.before).edge_from.ensures
+    (edge t c.before.before.before.before.before.before.before.before.before.before.before).in-Edge.is c.cross-crossing.ensures
     c.in-Open.is c.walk-r.ensures c.in-At.is c.put_word.ensures)
 
 unbind-tag-requires : (t : ℕ) → at walk-lts.Need-unbind_tag-requires t
@@ -313,7 +324,9 @@ loop-less t c =
 
 loop-again : (t : ℕ) → at walk-lts.Need-loop-pattern-preserved-in-Open t
 loop-again t c =
-    turn_back (turn t c.before.before.before.before.before.before.before.before.before).loop-pattern.invariant (edge t c.before.before.before.before.before.before.before.before.before).edge_from.ensures (edge t c.before.before.before.before.before.before.before.before.before).in-Edge.is c.cross-crossing.ensures
+    turn_back (turn t c.before.before.before.before.before.before.before.before.before).loop-pattern.invariant
+    (edge t c.before.before.before.before.before.before.before.before.before).edge_from.ensures
+    (edge t c.before.before.before.before.before.before.before.before.before).in-Edge.is c.cross-crossing.ensures
     c.in-Open.is c.walk-r.ensures c.in_default-r.is c.unbind_tag.ensures
 
 pub +walk_spec : {M : Type 1} → statement M

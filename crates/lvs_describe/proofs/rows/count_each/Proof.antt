@@ -46,7 +46,11 @@ add-t18 c =
 -- of the signers
 add-t21 : tie.Need-overflow_add-count-in-Found-4 Inv μ
 add-t21 c =
-    omega (arith, item_fits _ c.loop-typ.invariant.signers_in (step c.before.before.before.before.before.before.before.before.before.before) c.one_of-in-Found-4.ensures)
+    omega (
+      arith,
+      item_fits _ c.loop-typ.invariant.signers_in (step c.before.before.before.before.before.before.before.before.before.before)
+          c.one_of-in-Found-4.ensures,
+    )
 
 loop-less : tie.Need-loop-typ-smaller Inv μ
 loop-less c =
@@ -54,7 +58,8 @@ loop-less c =
 
 loop-again : tie.Need-loop-typ-preserved Inv μ
 loop-again c =
-    tally_next c.loop-typ.invariant (step c.before.before.before.before.before.before.before.before.before.before) c.one_of.ensures c.one_of-in-Found.ensures c.one_of-in-Found-2.ensures
+    tally_next c.loop-typ.invariant (step c.before.before.before.before.before.before.before.before.before.before) c.one_of.ensures
+    c.one_of-in-Found.ensures c.one_of-in-Found-2.ensures
     c.one_of-in-Found-3.ensures
     c.one_of-in-Found-4.ensures
 

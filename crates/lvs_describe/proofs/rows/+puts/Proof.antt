@@ -17,22 +17,22 @@ use Rattle.lvs_describe.proofs.Containers.{node_item, symbol_item, parent_item, 
 use Rattle.lvs_describe.proofs.Containers.{pattern_edge_item, signer_item, constraint_item, option_item, value_item, tag_item, call_item, argument_item}
 use Rattle.lvs_describe.proofs.rows.put_call.Reads as put-call
 use Rattle.lvs_describe.proofs.rows.put_call.Kinds as put-call-kinds
-use Rattle.lvs_describe.proofs.rows.+put_call_put_counted_put_item_put_node_put_pattern_edge_put_row.Lts-put_call as put-call-lts
+use Rattle.lvs_describe.proofs.rows.+puts.Lts-put_call as put-call-lts
 use Rattle.lvs_describe.proofs.rows.put_counted.Reads as put-counted
 use Rattle.lvs_describe.proofs.rows.put_counted.Kinds as put-counted-kinds
-use Rattle.lvs_describe.proofs.rows.+put_call_put_counted_put_item_put_node_put_pattern_edge_put_row.Lts-put_counted as put-counted-lts
+use Rattle.lvs_describe.proofs.rows.+puts.Lts-put_counted as put-counted-lts
 use Rattle.lvs_describe.proofs.rows.put_item.Reads as put_item
 use Rattle.lvs_describe.proofs.rows.put_item.Kinds as put-item-kinds
-use Rattle.lvs_describe.proofs.rows.+put_call_put_counted_put_item_put_node_put_pattern_edge_put_row.Lts-put_item as put-item-lts
+use Rattle.lvs_describe.proofs.rows.+puts.Lts-put_item as put-item-lts
 use Rattle.lvs_describe.proofs.rows.put_node.Reads as put-node
 use Rattle.lvs_describe.proofs.rows.put_node.Kinds as put-node-kinds
-use Rattle.lvs_describe.proofs.rows.+put_call_put_counted_put_item_put_node_put_pattern_edge_put_row.Lts-put_node as put-node-lts
+use Rattle.lvs_describe.proofs.rows.+puts.Lts-put_node as put-node-lts
 use Rattle.lvs_describe.proofs.rows.put_pattern_edge.Reads as put-pattern-edge
 use Rattle.lvs_describe.proofs.rows.put_pattern_edge.Kinds as edge-kinds
-use Rattle.lvs_describe.proofs.rows.+put_call_put_counted_put_item_put_node_put_pattern_edge_put_row.Lts-put_pattern_edge as edge-lts
+use Rattle.lvs_describe.proofs.rows.+puts.Lts-put_pattern_edge as edge-lts
 use Rattle.lvs_describe.proofs.rows.put_row.Reads as put-row
 use Rattle.lvs_describe.proofs.rows.put_row.Kinds as put-row-kinds
-use Rattle.lvs_describe.proofs.rows.+put_call_put_counted_put_item_put_node_put_pattern_edge_put_row.Lts-put_row as put-row-lts
+use Rattle.lvs_describe.proofs.rows.+puts.Lts-put_row as put-row-lts
 use Rattle.lvs_describe.proofs.lists.put_number.Reads as put-number-reads
 use Rattle.lvs_describe.proofs.lists.put_numbered.Reads as put-numbered-reads
 use Rattle.lvs_describe.proofs.lists.put_pair.Reads as put-pair-reads
@@ -49,8 +49,8 @@ use Rattle.tlv.proofs.Place.element.Reads as element-reads
 use Rattle.tlv.proofs.inside_of.Reads as inside-of-reads
 use Rattle.tlv.proofs.number_of.Reads as number-of-reads
 use Rattle.lvs_edges.proofs.pattern_fields.Reads as pattern-fields-reads
-use Rattle.lvs_describe.proofs.rows.+put_call_put_counted_put_item_put_node_put_pattern_edge_put_row.{statement}
-use Rattle.lvs_describe.proofs.rows.+put_call_put_counted_put_item_put_node_put_pattern_edge_put_row.Tie.{close}
+use Rattle.lvs_describe.proofs.rows.+puts.{statement}
+use Rattle.lvs_describe.proofs.rows.+puts.Tie.{close}
 
 -- ---- what each call asks, and that its measure falls: bytes left, and of calls on the same bytes an element's comes first, then a container's, then a
 -- row's
@@ -328,7 +328,8 @@ put-pattern-edge-put-row-requires t c κs =
 
 put-pattern-edge-returns-2 : (t : ℕ) → put-pattern-edge-need edge-lts.Need-returns t
 put-pattern-edge-returns-2 t c =
-    pattern_edge_put _ (fields t c.before.before.before.before.before.before.before.before.before).pattern_fields-fields.ensures (c.put_pair-rest.ensures _) c.put_row.ensures
+    pattern_edge_put _ (fields t c.before.before.before.before.before.before.before.before.before).pattern_fields-fields.ensures
+    (c.put_pair-rest.ensures _) c.put_row.ensures
 
 -- ---- put_counted
 
@@ -384,7 +385,8 @@ put-counted-loop-less t c =
 
 put-counted-loop-again : (t : ℕ) → put-counted-need put-counted-lts.Need-loop-typ-preserved-then-is_of t
 put-counted-loop-again t c =
-    walk_item c.loop-typ.invariant (item_found _ (step t c.before.before.before.before.before.before.before.before.before.before) (sym c.is_of.ensures ∙ c.if-is_of.true))
+    walk_item c.loop-typ.invariant (item_found _ (step t c.before.before.before.before.before.before.before.before.before.before)
+    (sym c.is_of.ensures ∙ c.if-is_of.true))
     c.put_item-rest.ensures
 
 put-counted-loop-less-2 : (t : ℕ) → put-counted-need put-counted-lts.Need-loop-typ-smaller t
@@ -429,8 +431,8 @@ put-row-put-counted-requires t c κs =
 put-row-returns : (t : ℕ) → put-row-need put-row-lts.Need-returns t
 put-row-returns t c = c.put_counted.ensures
 
-pub +put_call_put_counted_put_item_put_node_put_pattern_edge_put_row_spec : {M : Type 1} → statement M
-+put_call_put_counted_put_item_put_node_put_pattern_edge_put_row_spec = close μ-put-call μ-put-counted μ-put-item μ-put-node μ-put-pattern-edge μ-put-row
+pub +puts_spec : {M : Type 1} → statement M
++puts_spec = close μ-put-call μ-put-counted μ-put-item μ-put-node μ-put-pattern-edge μ-put-row
     (λ t. put-call-lts.spec (put-call-calls t)
     (put-call-at t)
     put-call.Post

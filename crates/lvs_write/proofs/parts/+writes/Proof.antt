@@ -52,19 +52,19 @@ use Rattle.lvs_write.proofs.parts.type_of.Reads as type-of-reads
 use Rattle.lvs_write.proofs.parts.write_argument.Reads as write-argument-reads
 use Rattle.lvs_write.proofs.parts.write_parent.Reads as write-parent-reads
 use Rattle.lvs_write.proofs.parts.write_symbol.Reads as write-symbol-reads
-use Rattle.lvs_write.proofs.parts.+attempt_write_call_write_inside_write_many_write_nested_write_node_write_part_write_pattern_edge_write_term.Lts-attempt as attempt-lts
-use Rattle.lvs_write.proofs.parts.+attempt_write_call_write_inside_write_many_write_nested_write_node_write_part_write_pattern_edge_write_term.Lts-write_call as write-call-lts
-use Rattle.lvs_write.proofs.parts.+attempt_write_call_write_inside_write_many_write_nested_write_node_write_part_write_pattern_edge_write_term.Lts-write_inside as write-inside-lts
-use Rattle.lvs_write.proofs.parts.+attempt_write_call_write_inside_write_many_write_nested_write_node_write_part_write_pattern_edge_write_term.Lts-write_many as write-many-lts
-use Rattle.lvs_write.proofs.parts.+attempt_write_call_write_inside_write_many_write_nested_write_node_write_part_write_pattern_edge_write_term.Lts-write_nested as write-nested-lts
-use Rattle.lvs_write.proofs.parts.+attempt_write_call_write_inside_write_many_write_nested_write_node_write_part_write_pattern_edge_write_term.Lts-write_node as write-node-lts
-use Rattle.lvs_write.proofs.parts.+attempt_write_call_write_inside_write_many_write_nested_write_node_write_part_write_pattern_edge_write_term.Lts-write_part as write-part-lts
-use Rattle.lvs_write.proofs.parts.+attempt_write_call_write_inside_write_many_write_nested_write_node_write_part_write_pattern_edge_write_term.Lts-write_pattern_edge as write-pattern-edge-lts
-use Rattle.lvs_write.proofs.parts.+attempt_write_call_write_inside_write_many_write_nested_write_node_write_part_write_pattern_edge_write_term.Lts-write_term as write-term-lts
-use Rattle.lvs_write.proofs.parts.+attempt_write_call_write_inside_write_many_write_nested_write_node_write_part_write_pattern_edge_write_term.{
+use Rattle.lvs_write.proofs.parts.+writes.Lts-attempt as attempt-lts
+use Rattle.lvs_write.proofs.parts.+writes.Lts-write_call as write-call-lts
+use Rattle.lvs_write.proofs.parts.+writes.Lts-write_inside as write-inside-lts
+use Rattle.lvs_write.proofs.parts.+writes.Lts-write_many as write-many-lts
+use Rattle.lvs_write.proofs.parts.+writes.Lts-write_nested as write-nested-lts
+use Rattle.lvs_write.proofs.parts.+writes.Lts-write_node as write-node-lts
+use Rattle.lvs_write.proofs.parts.+writes.Lts-write_part as write-part-lts
+use Rattle.lvs_write.proofs.parts.+writes.Lts-write_pattern_edge as write-pattern-edge-lts
+use Rattle.lvs_write.proofs.parts.+writes.Lts-write_term as write-term-lts
+use Rattle.lvs_write.proofs.parts.+writes.{
   statement,
 }
-use Rattle.lvs_write.proofs.parts.+attempt_write_call_write_inside_write_many_write_nested_write_node_write_part_write_pattern_edge_write_term.Tie.{
+use Rattle.lvs_write.proofs.parts.+writes.Tie.{
   close,
 }
 
@@ -574,9 +574,9 @@ write-nested-same-length-4 : (t : ℕ) → write-nested-lts.Need-shape_of-out (w
 write-nested-same-length-4 t c =
     c.out-3-1.given.1 ∙ c.out-2-1.given ∙ c.out-1.given
 
-pub +attempt_write_call_write_inside_write_many_write_nested_write_node_write_part_write_pattern_edge_write_term_spec :
+pub +writes_spec :
     {M : Type 1} → statement M
-+attempt_write_call_write_inside_write_many_write_nested_write_node_write_part_write_pattern_edge_write_term_spec =
++writes_spec =
     close
     μ-attempt
     μ-write-call
