@@ -1,5 +1,5 @@
 #!/usr/bin/env python3
-"""Runs target/bin/elements on stored inputs and compares what it writes with stored outputs.
+"""Runs the program elements on stored inputs and compares what it writes with stored outputs.
 
 tests/elements/NAME.hex has one input to a line: bytes in hexadecimal, 61*253 for 253 bytes 61, and - for no bytes.
 Empty lines and lines that begin with # are passed over. NAME.out has what the program writes for each, in turn.
@@ -11,7 +11,11 @@ import subprocess
 import sys
 
 ROOT = pathlib.Path(__file__).resolve().parent.parent
-PROGRAM = ROOT / "target/bin/elements"
+sys.path.insert(0, str(ROOT / "tools"))
+sys.dont_write_bytecode = True
+import crates  # noqa: E402
+
+PROGRAM = crates.program("elements")
 
 
 def lines_of(path):

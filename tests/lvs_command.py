@@ -1946,7 +1946,7 @@ def copied(folder):
     text = file.read_text()
     assert '"/opt/rattle/bin"' in text
     file.write_text(text.replace('"/opt/rattle/bin"', '"/none"'))
-    source = folder / "crates/lvs/src/lib.rt"
+    source = folder / "crates/lvs_cases/src/main.rt"
     source.parent.mkdir(parents=True)
     for path in (source, folder / "crates.txt"):
         path.touch()
@@ -1961,12 +1961,12 @@ def programmed(file, text):
     file.chmod(0o755)
 
 
-BUILDING = "lvs: building the checker with `rt check lvs_cases`; the first time this proves the crates that it is made of, in about four minutes\n"
+BUILDING = "lvs: building the checker with `rt run` in crates/lvs_cases; the first time this proves the crates that it is made of, which takes minutes\n"
 
 
 def check_builds(folder):
     source = copied(folder)
-    bin_folder, program = folder / "bin", folder / "target/bin/lvs_cases"
+    bin_folder, program = folder / "bin", folder / "crates/lvs_cases/out/lvs_cases"
     (folder / "b.lvs").write_bytes(B)
     (folder / "long.lvs").write_bytes(bytes(65537))
 
@@ -1985,13 +1985,13 @@ def check_builds(folder):
     (bin_folder / "rt").chmod(0o755)
     check("an rt that is no program", judged(), (3, "", f"{BUILDING}lvs: cannot run {bin_folder / 'rt'}: Exec format error\n"))
     programmed(bin_folder / "rt", "echo 'rt: tlv proved (1 s)'; echo 'no proof' >&2; exit 1")
-    failed = "lvs: the build failed: `rt check lvs_cases` ended with status 1. Its last lines:\n  rt: tlv proved (1 s)\n  no proof\n"
+    failed = "lvs: the build failed: `rt run` ended with status 1. Its last lines:\n  rt: tlv proved (1 s)\n  no proof\n"
     check("a failed build", judged(), (3, "", f"{BUILDING}rt: tlv proved (1 s)\n{failed}"))
     programmed(bin_folder / "rt", "exit 0")
-    text = f"lvs: rt takes {program} for built, but it is not there: remove {folder / 'target'} and try again\n"
+    text = f"lvs: `rt run` ended well, but {program} is not there: remove {program.parent} and try again\n"
     check("a build without a program", judged(), (3, "", BUILDING + text))
-    programmed(bin_folder / "rt", f"echo \"rt: $* in $PWD\"; mkdir -p target/bin; cp '{ROOT}/target/bin/lvs_cases' target/bin/; touch -d @9 target/bin/*")
-    built = f"{BUILDING}rt: check lvs_cases in {folder}\n"
+    programmed(bin_folder / "rt", f"echo \"rt: $* in $PWD\"; mkdir -p out; cp '{driver.PROGRAM}' out/; touch -d @9 out/*; touch out/copy.rt")
+    built = f"{BUILDING}rt: run in {program.parents[1]}\n"
     check("the first use", judged(), (0, "accepted: 2 nodes\n", built))
     check("the second use", judged(), (0, "accepted: 2 nodes\n", ""))
     os.utime(source, (program.stat().st_mtime + 0.01,) * 2)

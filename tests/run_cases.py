@@ -20,8 +20,9 @@ TABLES = (
     "bench", "limits", "refusals", "gaps", "places", "document_003", "walks", "writing", "certificates", "temporary", "components", "paths",
     "origins", "trees",
 )  # fmt: skip
-sys.path.insert(0, str(CASES))
+sys.path[:0] = [str(CASES), str(ROOT / "tools")]
 sys.dont_write_bytecode = True
+import crates  # noqa: E402
 
 
 def table(name):
@@ -151,10 +152,10 @@ def main():
     if words[:1] == ["--store"]:
         store()
         words = words[1:]
-    programs = pathlib.Path(words[0]).resolve() if words else ROOT / "target/bin"
-    wrong = sum(check_table(name, programs / "lvs_cases") for name in TABLES)
-    wrong += check_runs("driver", driver_runs(programs / "lvs_cases"))
-    wrong += check_runs("checker", checker_runs(programs / "lvs_check"))
+    driver, checker = (pathlib.Path(words[0]).resolve() / name if words else crates.program(name) for name in ("lvs_cases", "lvs_check"))
+    wrong = sum(check_table(name, driver) for name in TABLES)
+    wrong += check_runs("driver", driver_runs(driver))
+    wrong += check_runs("checker", checker_runs(checker))
     wrong += example_is_document_01s()
     wrong += check_uris()
     return 1 if wrong else 0

@@ -5,10 +5,10 @@ usage: columns.py
 
 Prints each as FILE:LINE: COLUMNS, and fails if there are any.
 """
-import pathlib
 import sys
 
-ROOT = pathlib.Path(__file__).resolve().parent.parent
+from crates import ROOT, sources
+
 LIMIT = 160
 
 
@@ -18,7 +18,7 @@ def long_lines(path):
 
 
 def main():
-    files = [path for path in sorted((ROOT / "crates").rglob("*")) if path.suffix in (".antt", ".rt")]
+    files = sources()
     found = [line for path in files for line in long_lines(path)]
     print("\n".join([*found, f"{len(found)} lines of {LIMIT} columns or more in {len(files)} files"]))
     return bool(found) or not files

@@ -33,8 +33,9 @@ import subprocess
 import sys
 import tempfile
 
-ROOT = pathlib.Path(__file__).resolve().parent.parent
-OURS = ROOT / "target/bin"
+from crates import ROOT, program as made_by_rt
+
+OUR_CASES, OUR_CHECKER = made_by_rt("lvs_cases"), made_by_rt("lvs_check")
 REFERENCE = ROOT / "reference/target/release"
 BATCH = 20_000
 # what follows the cases of gen_cases in a batch: the program gen_NAME and how many of its cases; --NAME compares them alone
@@ -111,7 +112,7 @@ def compare_checker(file, folder):
     for index, (model, packet, key, *_) in itertools.islice(signing, RUNS):
         (folder / "model.lvs").write_bytes(model)
         verdict, answer = with_room(model, packet, key)
-        ours = lines_of(OURS / "lvs_check", b"\x4d\x4b" + request(packet) + request(key), cwd=folder)
+        ours = lines_of(OUR_CHECKER, b"\x4d\x4b" + request(packet) + request(key), cwd=folder)
         ran += 1
         if ours != checker_lines(verdict, answer, (packet, key)):
             wrong += 1
@@ -181,7 +182,7 @@ def compare_cases(program, seed, count, folder):
     cases = folder / program
     generate(cases, program, seed, count)
     expected = lines_of(REFERENCE / "answer_cases", cases)
-    return cases, expected, report(program, seed, lines_of(OURS / "lvs_cases", cases), expected)
+    return cases, expected, report(program, seed, lines_of(OUR_CASES, cases), expected)
 
 
 def compare_more(name, seed, count, folder, tally):
@@ -206,7 +207,7 @@ def compare_batch(seed, count, folder, tally):
     generate(gaps, "gap_cases", seed, count // 100, lines)
     demanded = lines.read_text().splitlines()
     made["cases of demand 3"] = len(demanded)
-    wrong += bad + report("demand 3", seed, lines_of(OURS / "lvs_cases", gaps), demanded)
+    wrong += bad + report("demand 3", seed, lines_of(OUR_CASES, gaps), demanded)
     print(f"seed {seed}: {', '.join(f'{number} {what}' for what, number in made.items())}, {wrong} differences", flush=True)
     return sum(made.values()), wrong
 

@@ -6,11 +6,11 @@ usage: names.py
 A name is what stands between backticks: words of letters, digits, `_`, `-` and `·`, alone, behind `crate::module::` or in a list. Each has to
 be a word of some .rt or .antt file, or a file or folder of the repository. The status is 1 where one is not.
 """
-import pathlib
 import re
 import sys
 
-ROOT = pathlib.Path(__file__).resolve().parent.parent
+from crates import ROOT, sources
+
 DOCUMENT = ROOT / "docs/definitions.md"
 WORD = re.compile(r"[A-Za-z][\w·-]*[\w]")
 
@@ -24,8 +24,7 @@ def names():
 
 
 def main():
-    sources = (path for path in ROOT.glob("crates/**/*") if path.suffix in (".rt", ".antt"))
-    known = {word for path in sources for word in WORD.findall(path.read_text(encoding="utf-8"))}
+    known = {word for path in sources() for word in WORD.findall(path.read_text(encoding="utf-8"))}
     given = list(names())
     unknown = [(number, name) for number, name in given if name not in known]
     for number, name in unknown:

@@ -39,9 +39,9 @@ ROOT = pathlib.Path(__file__).resolve().parent.parent
 sys.path[:0] = [str(ROOT / "tests/cases"), str(ROOT / "tools")]
 sys.dont_write_bytecode = True
 import build  # noqa: E402
-from compare import build_reference, FIELDS, OURS, REFERENCE  # noqa: E402
+from compare import build_reference, FIELDS, OUR_CASES, REFERENCE  # noqa: E402
 
-PROGRAMS = [OURS / "lvs_cases", REFERENCE / "answer_cases"]
+PROGRAMS = [OUR_CASES, REFERENCE / "answer_cases"]
 WITHOUT_ORIGINS = []  # those of them whose signing case has no binding words, and whose matching case has two for each Tag
 WITHOUT_TREES = []  # those of them that accept a start with a Parent, and two edges of a Node to the same destination
 PATH = 64  # words: one for each component that two names may have

@@ -1,12 +1,13 @@
 """The proved calls, through the case driver lvs_cases. crates/lvs_cases/src/main.rt has the form of its cases and lines."""
 import functools
 import os
-import pathlib
 import shutil
 import struct
 import subprocess
 import time
 from typing import NamedTuple
+
+import crates
 
 from .answers import Accepted, Allowed, Certificate, Described, Followed, Match, NoCertificate, NoMatch, NotAllowed, NotFollowed, Refused, Written
 from .answers import PATH_WORDS, counted, no_answer, read_answer
@@ -14,8 +15,8 @@ from .bindings import WORDS
 from .errors import Failure, say
 from .refusals import LISTS
 
-ROOT = pathlib.Path(__file__).resolve().parents[2]
-PROGRAM = ROOT / "target/bin/lvs_cases"
+CRATE = "lvs_cases"
+PROGRAM = crates.program(CRATE)
 TOOLCHAIN = "/opt/rattle/bin"  # where rt is looked for when it is not in PATH
 
 
@@ -147,42 +148,33 @@ def write(numbers, texts):
 @functools.lru_cache
 def program():
     """The driver, built where it is missing or older than code or a proof."""
-    if not is_built():
+    if not crates.is_built(CRATE):
         build()
     return PROGRAM
-
-
-def is_built():
-    try:
-        made = PROGRAM.stat().st_mtime
-    except OSError:
-        return False
-    sources = (path for path in ROOT.glob("crates/**/*") if path.suffix in (".rt", ".antt"))
-    return all(path.lstat().st_mtime <= made for path in [ROOT / "crates.txt", *sources])
 
 
 def build():
     rt = shutil.which("rt") or shutil.which("rt", path=TOOLCHAIN)
     if rt is None:
         raise Failure("the checker has to be built with `rt` of the Rattle toolchain, which is not in PATH")
-    say("building the checker with `rt check lvs_cases`; the first time this proves the crates that it is made of, in about four minutes")
+    say("building the checker with `rt run` in crates/lvs_cases; the first time this proves the crates that it is made of, which takes minutes")
     began = time.time()
     try:
-        status, lines = run_rt([rt, "check", "lvs_cases"])
+        status, lines = run_rt([rt, "run"])
     except OSError as fault:
         raise Failure(f"cannot run {rt}: {fault.strerror}") from None
-    if status == 0 and not PROGRAM.exists():  # rt goes by the sources: it does not see that the program was removed
-        raise Failure(f"rt takes {PROGRAM} for built, but it is not there: remove {ROOT / 'target'} and try again")
+    if status == 0 and not PROGRAM.exists():
+        raise Failure(f"`rt run` ended well, but {PROGRAM} is not there: remove {PROGRAM.parent} and try again")
     if status != 0:
         last = "".join(f"\n  {line}" for line in lines[-20:])
-        raise Failure(f"the build failed: `rt check lvs_cases` ended with status {status}. Its last lines:{last}")
-    os.utime(PROGRAM, (began, began))  # a file that was changed since then is newer; and rt leaves alone what needs no building
+        raise Failure(f"the build failed: `rt run` ended with status {status}. Its last lines:{last}")
+    os.utime(PROGRAM, (began, began))  # a file that was changed since then is newer; and rt goes by what is in the files, not by their times
 
 
 def run_rt(words):
-    """rt's status and all its lines; its own ones are shown while it runs."""
-    lines = []
-    with subprocess.Popen(words, cwd=ROOT, stdout=subprocess.PIPE, stderr=subprocess.STDOUT) as running:
+    """rt's status and all its lines; its own ones are shown while it runs. It also runs the program that it built, here on no cases."""
+    lines, how = [], {"cwd": PROGRAM.parents[1], "stdin": subprocess.DEVNULL}
+    with subprocess.Popen(words, **how, stdout=subprocess.PIPE, stderr=subprocess.STDOUT) as running:
         for line in running.stdout:
             lines.append(line.decode("utf-8", "replace").rstrip())
             if lines[-1].startswith("rt: "):
