@@ -4,13 +4,13 @@
 usage: unused.py [--remove]
 
 Works on the text: a name counts as used where it occurs as a word outside of `use` lines and comments; an operator where all its parts
-do (`_then_` is one, `snake_case` none). Prints each file with its unused imports, and fails if there are any; --remove takes them out.
+do (`◌then◌`, whose ◌ are its arguments). Prints each file with its unused imports, and fails if there are any; --remove takes them out.
 """
-import pathlib
 import re
 import sys
 
-ROOT = pathlib.Path(__file__).resolve().parent.parent
+from crates import ROOT, sources
+
 LISTED = re.compile(r"(?P<head>(?:ghost )?use \S+\.\{)(?P<names>.*)(?P<tail>\};?)$")
 MODULE = re.compile(r"(?:ghost )?use \S+ as (?P<name>[^\s;}]+);?$")
 ITEM = re.compile(r"use (?:\w+::)+(?P<name>\w+);$")
@@ -19,8 +19,7 @@ WORD = r"(?<![\w·-]){}(?![\w·-])"
 
 
 def said(name, text):
-    operator = "_" in name and (not re.fullmatch(r"\w+", name) or name[0] == "_" or name[-1] == "_")
-    parts = [part for part in name.split("_") if part] if operator else [name]
+    parts = [part for part in name.split("◌") if part]
     return all(re.search(WORD.format(re.escape(part)) if part[0].isalnum() or part[0] in "·" else re.escape(part), text) for part in parts)
 
 
@@ -58,7 +57,7 @@ def main():
     remove = sys.argv[1:] == ["--remove"]
     if sys.argv[1:] and not remove:
         sys.exit(__doc__)
-    count = sum(prune(path, remove) for path in sorted((ROOT / "crates").rglob("*")) if path.suffix in COMMENT)
+    count = sum(prune(path, remove) for path in sources())
     print(f"{count} unused imports{' removed' if remove and count else ''}")
     sys.exit(1 if count and not remove else 0)
 
