@@ -629,12 +629,13 @@ def suggest_row(what, is_allowed, model, packet, keys):
 
 def frame():
     """Bytes of the stack for a level of the walk: its locals, the registers that it saves, the return address, and the arguments for the
-    next level that are passed on the stack."""
+    next level that are pushed, if their places are not among the locals."""
     code = subprocess.run(["objdump", "-d", str(PROGRAMS[0])], capture_output=True, text=True, check=True).stdout
     start = code.index("<lvs_walk::walk>:")
     code = code[start:code.index("\n\n", start)]
     locals_ = int(re.search(r"sub +\$0x([0-9a-f]+),%rsp", code).group(1), 16)
-    arguments = max(int(size, 16) for size in re.findall(r"call .*<lvs_walk::walk>\n.*add +\$0x([0-9a-f]+),%rsp", code))
+    pushed = re.findall(r"call .*<lvs_walk::walk>\n.*add +\$0x([0-9a-f]+),%rsp", code)
+    arguments = max((int(size, 16) for size in pushed), default=0)
     return locals_ + code[:code.index("sub ")].count("push ") * 8 + 8 + arguments
 
 
