@@ -86,8 +86,8 @@ pub fn sign<'a>(
     words: &mut [u32],
     path: &mut [u16],
 ) -> SignAnswer
-    ensures { record { answer = sign_answer_of result; buffers = record { words = words.exit.now; path = path.new } } ≡
-        sign_outcome model.now packet.now key.now (record { words = words.entry.now; path = path.old }) }
+    ensures { record { answer = sign_answer_of result; buffers = record { words = words.new; path = path.new } } ≡
+        sign_outcome model.now packet.now key.now (record { words = words.old; path = path.old }) }
 {
     match lvs_verdict::judge_inputs(model, packet, key) {
         Inputs::Refused { number, at } => SignAnswer::Refused { number, at },
