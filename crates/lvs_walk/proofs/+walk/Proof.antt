@@ -314,7 +314,7 @@ returns-5 t c =
 
 unbind-tag-requires : (t : ℕ) → at walk-lts.Need-unbind_tag-requires t
 unbind-tag-requires t c κs =
-    rw c.in-Open.is at c.cross-crossing.ensures.low
+    let low = rw c.in-Open.is at c.cross-crossing.ensures.low in omega (arith, low)
 
 loop-less : (t : ℕ) → at walk-lts.Need-loop-pattern-smaller-in-Open t
 loop-less t c =
