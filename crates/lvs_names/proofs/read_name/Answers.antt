@@ -1,5 +1,5 @@
 -- `lvs_names::read_name` meets its contract: the tests that led to each return say what `name_reading` is. Assumes nothing.
-use Rattle.std.proofs.Common.{◌≡◌, ◌∙◌, ◌≤◌, ◌<◌, ℕ, List, length, sym, ap, arith}
+use Rattle.std.proofs.Common.{◌≡◌, ◌∙◌, ◌≤◌, ◌<◌, ℕ, List, sym, ap, arith}
 use Rattle.lvs_spec.specs.Names.{bad_name, name_reading}
 use Rattle.lvs_names.specs.Answers.{first_refusal, NameOf, header_of, count_of}
 use Rattle.lvs_names.specs.declared.Side.{Side}
