@@ -1,6 +1,6 @@
 -- What the definitions come to, by what the callees answered. Assumes nothing.
 use Prim.Native.Nat.{ℕ}
-use mathlib.Core.Path.{◌≡◌, sym, ◌∙◌}
+use mathlib.Core.Path.{◌≡◌, sym, subst, ◌∙◌}
 use mathlib.Core.List.{List}
 use Rattle.lvs_spec.specs.Model.{Model, model_of}
 use Rattle.lvs_spec.specs.Verdict.{Verdict, unreadable, describes, reading, judge, verdict}
@@ -16,7 +16,9 @@ use Rattle.lvs_names.specs.declared.Row.{Row}
 use Rattle.lvs_names.specs.declared.NameRead.{NameRead}
 use Rattle.lvs_names.specs.declared.NameRead.TheVariants.{Good}
 use Rattle.lvs_names.proofs.Read.{read_good, read_count, read_few}
-use Rattle.lvs_verdict.specs.Answers.{RowOf, GoodInputs}
+use Rattle.lvs_verdict.specs.Answers.{RowOf, GoodInputs, InputsOf}
+use Rattle.lvs_verdict.specs.declared.Inputs.{Inputs}
+use Rattle.lvs_verdict.specs.declared.Inputs.TheVariants as answer
 
 -- ---- the verdict
 
@@ -69,3 +71,12 @@ inputs_good b packet key {n} accepted {p = p} {k = k} of_packet e of-key f =
       packet_row = row_of of_packet e;
       key_row = row_of of-key f;
     }
+
+-- ---- what `judge_inputs` answered, in the arm where its case is known
+
+pub judged_good : {b packet key : List ℕ} {i : Inputs} {p k : Row} → InputsOf b packet key i → i ≡ answer.Good p k → GoodInputs b packet key p k
+judged_good {b} {packet} {key} of e = subst (InputsOf b packet key) e of
+
+pub judged_bad : (b packet key : List ℕ) {i : Inputs} {r a : ℕ} → InputsOf b packet key i → i ≡ answer.Refused r a
+    → inputs b packet key ≡ bad (record { number = r; at = a })
+judged_bad b packet key of e = subst (InputsOf b packet key) e of
