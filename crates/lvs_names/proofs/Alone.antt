@@ -1,18 +1,44 @@
 -- A component that is cut out of its name. Assumes nothing.
 use Prim.Native.Nat.{ℕ, ◌+◌, ◌-◌, ◌≤◌}
-use mathlib.Core.Path.{◌≡◌, sym, ap, ◌∙◌}
-use mathlib.Core.List.{List, [], ◌++◌, append-nil}
+use mathlib.Core.Path.{◌≡◌, refl, sym, ap, ◌∙◌}
+use mathlib.Core.Bool.{true}
+use mathlib.Core.List.{List, [], ◌∷◌, ◌++◌, append-nil}
 use native.Mathlib.Omega.{arith}
+use borrow.Author.Tests.{eqb-true, eq-eqb}
+use lib.Dec.{eqb}
 use lib.ListN.{length, take, drop, length-drop}
 use lib.Seq.{take-append_seam, length-take-le}
 use Rattle.tlv.specs.Bytes.{Bytes}
-use Rattle.tlv.specs.Element.{Element, first, element, element_bytes}
+use Rattle.tlv.specs.Element.{Element, First, end, malformed, first, element, element_bytes}
 use Rattle.tlv.specs.declared.Place.{Place}
 use Rattle.tlv.proofs.Bytes.{bytes_drop}
 use Rattle.tlv.proofs.Cuts.{Step, Whole, element_whole}
 use Rattle.tlv.proofs.RoundTrip.{element_back, element_bytes_lem, element_fits, step_size}
 use Rattle.lvs_spec.specs.Model.{component_from, component_of}
-use Rattle.lvs_names.specs.Contents.{Alone}
+use Rattle.lvs_spec.proofs.Grammar.{both}
+use Rattle.lvs_spec.proofs.Lists.{clash}
+use Rattle.lvs_names.specs.Alone.{alone_from, is_alone, Alone}
+
+-- the test of a component's type, and what the laws say
+pub alone_of : (b : List ℕ) (header : ℕ) → is_alone b header ≡ true → Alone b header
+unfolding is_alone alone_from component_of component_from
+alone_of b header h = go (element b) refl h
+  where
+    go : (f : First) → element b ≡ f → alone_from f header ≡ true → Alone b header
+    go end p q = clash (cc)
+    go malformed p q = clash (cc)
+    go (first k e rest) p q =
+        let t = both (eqb k header) (eqb (length rest) 0) q in
+        let none : rest ≡ [] = nil rest (eqb-true (length rest) 0 t.1) in
+        record { is = rw p (λ i. first (eqb-true k header t.0 i) e (none i)) }
+      where
+        nil : (l : List ℕ) → length l ≡ 0 → l ≡ []
+        nil [] p = refl
+        nil (x ∷ l) p = absurd (omega arith)
+
+pub alone_test : {b : List ℕ} {header : ℕ} → Alone b header → is_alone b header ≡ true
+unfolding is_alone alone_from
+alone_test {b} {header} one = rw (one.is, eq-eqb header header refl)
 
 -- the element at a place, cut out
 module _ {s : List ℕ} {at t start stop : ℕ} {n : Place} (bytes : Bytes s) (f : Step s at t start stop n) where

@@ -6,8 +6,8 @@ use mathlib.Core.List.{List, [], ◌∷◌, ◌++◌, append_assoc, append-nil}
 use native.Mathlib.Omega.{arith}
 use borrow.Author.Tests.{eq-eqb, ne_eqb, leb-true}
 use lib.Dec.{eqb, leb}
-use lib.ListN.{length, take, drop, get_or, length-append, length-drop, take-append-drop, drop_of_length-le}
-use lib.Seq.{take_at, take-take, take_all, length-take-le, drop-length, drop-cons, split_at, drop-drop, get_or-drop, get_or-take}
+use lib.ListN.{length, take, drop, get_or, length-append, length-drop, take-append-drop}
+use lib.Seq.{take_at, take-take, take_all, length-take-le, split_at, drop-drop, get_or-drop, get_or-take}
 use Rattle.tlv.specs.Bytes.{Bytes, same_bytes}
 use Rattle.tlv.specs.Number.{number_bytes}
 use Rattle.tlv.specs.Element.{Element, First, end, malformed, first, element, type_in_range, element_bytes}
@@ -19,37 +19,8 @@ use Rattle.lvs_spec.proofs.Grammar.{both, and_false}
 use Rattle.lvs_spec.proofs.Looked.{same_itself, not_same, looked_other, looked_equal, looked_unequal}
 use Rattle.lvs_spec.specs.Model.{component_from, component_of}
 use Rattle.lvs_spec.specs.Names.{same}
-use Rattle.lvs_names.specs.Contents.{Alone}
-use Rattle.lvs_names.specs.Comparing.{ComparedOf, Headed, AlikeFrom, LastDifference}
-
--- ---- the loop from the back
-
-module _ {s c : List ℕ} {header : ℕ} (H : Headed s c header) where
-  pub alike_end : AlikeFrom s c header (length c)
-  alike_end =
-      let l : length (take (length c) s) ≤ length c = omega (arith, length-take-le (length c) s H.long) in
-      record {
-        low = H.within;
-        high = omega arith;
-        alike = drop_of_length-le (take (length c) s) l ∙ sym (drop-length c);
-      }
-
-  module _ {left : ℕ} (inv : AlikeFrom s c header left) (some : header < left) where
-    pub alike_more : get_or s (left - 1) 0 ≡ get_or c (left - 1) 0 → AlikeFrom s c header (left - 1)
-    alike_more e =
-        let front = take (length c) s in
-        let next : suc (left - 1) ≡ left = omega arith in
-        let long : length front ≡ length c = length-take-le (length c) s H.long in
-        let a : drop (left - 1) front ≡ get_or s (left - 1) 0 ∷ drop left front =
-        rw (drop-cons front (left - 1) 0 (omega (arith, inv.high)), get_or-take (length c) s (left - 1) 0 (omega (arith, inv.high)), next) in
-        let b : drop (left - 1) c ≡ get_or c (left - 1) 0 ∷ drop left c = rw (drop-cons c (left - 1) 0 (omega (arith, inv.high)), next) in
-        record { low = omega arith; high = omega (arith, inv.high); alike = a ∙ rw (e, inv.alike) (sym b) }
-
--- down to the header
-pub none_differs : {s c : List ℕ} {header left : ℕ} → AlikeFrom s c header left → left ≤ header → LastDifference s c header header
-none_differs {header = header} {left = left} inv low =
-    let e : left ≡ header = omega (arith, inv.low) in
-    record { behind = rw e at inv; unequal = λ more. absurd (omega arith) }
+use Rattle.lvs_names.specs.Alone.{Alone}
+use Rattle.lvs_names.specs.Comparing.{ComparedOf, Headed, LastDifference}
 
 -- ---- what stands behind a header of h bytes, around byte `left - 1`
 

@@ -1,4 +1,5 @@
 pub mod Rows
+pub mod Alone
 pub mod Answers
 pub mod Contents
 pub mod Comparing

@@ -3,49 +3,26 @@
 // A layer below the public calls: any bytes may be a name. `requires` asks for a component that is cut out.
 #![tactic(auto)]
 
+mod parts;
+
 ghost use Rattle.std.specs.Prelude.{◌≡◌, eqb, length, take};
 ghost use Rattle.tlv.specs.Bytes.{same_bytes};
 ghost use Rattle.lvs_spec.specs.Model.{component_of};
-ghost use Rattle.lvs_names.specs.Answers.{first_refusal, NameOf, header_of, count_of};
-ghost use Rattle.lvs_names.specs.Contents.{ContentOf, Alone, ComponentAt};
+ghost use Rattle.lvs_names.specs.Answers.{NameOf, read_row, header_of, count_of};
+ghost use Rattle.lvs_names.specs.Contents.{ContentOf, ComponentAt};
 ghost use Rattle.lvs_names.specs.Comparing.{ComparedOf, Headed, LastDifference};
 
+use lvs_spec::refusal::{NameFault, Refusal, Side};
+pub use parts::Component;
 use tlv::{Place, Read};
 
 const NAME: u32 = 7;
-
-// Which of the two names that a walk takes.
-#[derive(Clone, Copy)]
-pub enum Side {
-    Packet,
-    Key,
-}
 
 // The components of a name: where the first starts, and how many there are.
 #[derive(Clone, Copy)]
 pub struct Row {
     pub start: usize,
     pub count: usize,
-}
-
-#[derive(Clone, Copy)]
-pub enum NameRead {
-    Good(Row),
-    // A refusal number.
-    Refused(u32),
-}
-
-#[derive(Clone, Copy)]
-pub enum Counted {
-    Components(usize),
-    Malformed,
-}
-
-// The component at a place of a name: the size of its header, and the place where it ends; or there is none.
-#[derive(Clone, Copy)]
-pub enum ComponentRead {
-    Component(usize, usize),
-    End,
 }
 
 // A component: its type, and its value as a part of the slice that it was read from.
@@ -63,106 +40,92 @@ pub struct Compared {
     pub looked: usize,
 }
 
-// The refusal for a name that is too long; the next two are those for a malformed one and for too many components.
-fn first_refusal(side: Side) -> u32
-    ensures { result ≡ first_refusal side }
-{
-    match side {
-        Side::Packet => 21,
-        Side::Key => 24,
-    }
-}
-
-pub fn read_name(name: &[u8], side: Side) -> NameRead
+pub fn read_name(name: &[u8], side: Side) -> Result<Row, Refusal>
     ensures { NameOf side name.now result }
 {
-    let first = first_refusal(side);
     if lvs_spec::MAX_NAME_BYTES < name.len() {
-        return NameRead::Refused(first);
+        let fault = NameFault::TooLong;
+        return Err(Refusal::Name { side, fault });
     }
-    let start = header(name);
-    if start == 0 {
-        return NameRead::Refused(first + 1);
-    }
-    let Counted::Components(n) = count(name, start) else {
-        return NameRead::Refused(first + 1);
+    let Some(row) = components(name) else {
+        let fault = NameFault::Malformed;
+        return Err(Refusal::Name { side, fault });
     };
-    if lvs_spec::MAX_COMPONENTS < n {
-        return NameRead::Refused(first + 2);
+    if lvs_spec::MAX_COMPONENTS < row.count {
+        let fault = NameFault::ManyComponents;
+        return Err(Refusal::Name { side, fault });
     }
-    NameRead::Good(Row { start, count: n })
+    Ok(row)
 }
 
-// Where the components of a name start, or 0 where the slice is not one element of type 7.
-fn header(name: &[u8]) -> usize
+// The components of a name, if it is one.
+#[tactic(auto, unfolding(crate::specs::Answers::read_row))]
+fn components(name: &[u8]) -> Option<Row>
+    ensures { result ≡ read_row name.now }
+{
+    let start = header(name)?;
+    let count = count(name, start)?;
+    Some(Row { start, count })
+}
+
+// Where the components of a name start, if the slice is one element of type 7.
+fn header(name: &[u8]) -> Option<usize>
     ensures { result ≡ header_of name.now }
 {
     let place = Place { at: 0 };
-    match place.element(name) {
-        Read::Found {
-            typ,
-            start,
-            end,
-            next: _,
-        } => {
-            if typ != NAME {
-                return 0;
-            }
-            if end != name.len() {
-                return 0;
-            }
-            start
-        }
-        Read::End => 0,
-        Read::Malformed => 0,
+    let Read::Found {
+        typ,
+        start,
+        end,
+        ..
+    } = place.element(name)
+    else {
+        return None;
+    };
+    if typ == NAME && end == name.len() {
+        Some(start)
+    } else {
+        None
     }
 }
 
 // How many components stand from a place of a name on, up to its end.
-fn count(name: &[u8], from: usize) -> Counted
+fn count(name: &[u8], from: usize) -> Option<usize>
     ensures { result ≡ count_of name.now from }
 {
     let mut place = Place { at: from };
     let mut n: usize = 0;
     loop {
         match place.element(name) {
-            Read::Found {
-                typ,
-                start: _,
-                end: _,
-                next,
-            } => {
+            Read::Found { typ, next, .. } => {
                 if lvs_spec::MAX_COMPONENT_TYPE < typ {
-                    return Counted::Malformed;
+                    return None;
                 }
                 n += 1;
                 place = next;
             }
             Read::End => {
-                return Counted::Components(n);
+                return Some(n);
             }
             Read::Malformed => {
-                return Counted::Malformed;
+                return None;
             }
         }
     }
 }
 
-// The component at a place of a name.
-pub fn component_at(name: &[u8], at: usize) -> ComponentRead
+/// The component at a place of a name; it ends where its bytes do.
+pub fn component_at(name: &[u8], at: usize) -> Option<Component<'_>>
     ensures { ComponentAt name.now at result }
 {
     let place = Place { at };
-    match place.element(name) {
-        Read::Found {
-            typ: _,
-            start,
-            end,
-            next: _,
-        } => ComponentRead::Component(start - at, end),
-        Read::End => ComponentRead::End,
-        Read::Malformed => ComponentRead::End,
-    }
+    let Read::Found { start, end, .. } = place.element(name) else {
+        return None;
+    };
+    Some(Component {
+        bytes: &name[at..end],
+        header: start - at,
+    })
 }
 
 // The component that a slice begins with; where there is none, type 0 and no bytes. The contract leaves open where that empty part lies.
@@ -170,46 +133,42 @@ pub fn read_component(s: &[u8]) -> Content
     ensures { ContentOf s.now result }
 {
     let place = Place { at: 0 };
-    match place.element(s) {
-        Read::Found {
-            typ,
-            start,
-            end,
-            next: _,
-        } => Content { typ, start, end },
-        Read::End => Content {
+    let Read::Found {
+        typ,
+        start,
+        end,
+        ..
+    } = place.element(s)
+    else {
+        return Content {
             typ: 0,
             start: 0,
             end: 0,
-        },
-        Read::Malformed => Content {
-            typ: 0,
-            start: 0,
-            end: 0,
-        },
-    }
+        };
+    };
+    Content { typ, start, end }
 }
 
-// Compares the component that `s` begins with with `c`, which is one component and no more and has a header of `header` bytes: type and length
-// first, then the values from the back. A layer below: any bytes may be `s`; `c` is what the walk has cut out of a name.
-pub fn compare(s: &[u8], c: &[u8], header: usize) -> Compared
-    requires { Alone c.now header }
-    ensures { ComparedOf (component_of s.now) (component_of c.now) result }
+// Compares the component that `s` begins with with `c`: type and length first, then the values from the back. A layer below: any bytes may be
+// `s`; `c` is what the walk has cut out of a name.
+pub fn compare(s: &[u8], c: Component) -> Compared
+    ensures { ComparedOf (component_of s.now) (component_of c.entry.bytes.now) result }
 {
-    let n = c.len();
+    let Component { bytes, header, .. } = c;
+    let n = bytes.len();
     if s.len() < n {
         return Compared {
             equal: false,
             looked: 0,
         };
     }
-    if !same_header(s, c, header) {
+    if !same_header(s, bytes, header) {
         return Compared {
             equal: false,
             looked: 0,
         };
     }
-    let left = last_difference(s, c, header);
+    let left = last_difference(s, bytes, header);
     if left == header {
         return Compared {
             equal: true,
@@ -242,12 +201,10 @@ fn last_difference(s: &[u8], c: &[u8], header: usize) -> usize
     requires { Headed s.now c.now header }
     ensures { LastDifference s.now c.now header result }
 {
-    let mut left = c.len();
-    while header < left {
-        if s[left - 1] != c[left - 1] {
-            return left;
+    for at in (header..c.len()).rev() {
+        if s[at] != c[at] {
+            return at + 1;
         }
-        left -= 1;
     }
     header
 }

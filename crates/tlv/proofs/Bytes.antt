@@ -2,18 +2,19 @@
 use mathlib.Core.Path.{◌≡◌, refl, sym, ap, ◌∙◌}
 use mathlib.Core.List.{List, [], ◌∷◌, ◌++◌}
 use mathlib.Core.Bool.{Bool, true, false, false≢true, ◌&&◌}
-use Prim.Native.Nat.{ℕ, zero, suc, ◌+◌, ◌*◌, ◌%◌, ◌^◌, ◌≤◌, ◌<◌}
+use Prim.Native.Nat.{ℕ, zero, suc, ◌+◌, ◌*◌, ◌%◌, ◌^◌, ◌<◌}
 use native.Mathlib.Nat.{add-mul, pow-suc, pow-succ', mul_assoc, mod-lt, div-add-mod', div-lt_iff_lt-mul}
-use native.Mathlib.Numerals.{add-one}
 use native.Mathlib.Omega.{arith}
-use borrow.Author.Tests.{eqb-true, eq-eqb, ne_eqb}
+use borrow.Author.Tests.{eqb-true, eq-eqb}
 use lib.Arith.{digits_lt, digits_div, digits_mod}
 use lib.Dec.{eqb, lit<}
-use lib.ListN.{length, take, drop, get_or, length-append, length-drop, drop_of_length-le}
-use lib.Seq.{get_or-drop, length-take-le, take-add, drop-drop, drop-cons, take-append_seam, drop-append_seam}
+use lib.ListN.{length, take, drop, get_or, length-append}
+use lib.Seq.{get_or-drop, take-add, drop-cons, take-append_seam, drop-append_seam}
 use lib.Pow.{pow-add}
+use Rattle.std.proofs.Common.{nat_eq}
+use Rattle.std.specs.Cmp.Lexicographic.{pointwise}
+use Rattle.std.proofs.Common.{take_all}
 use Rattle.tlv.specs.Bytes.{Bytes, same_bytes, big_endian, big_endian_bytes}
-use Rattle.tlv.specs.Spelled.{Spelled}
 
 pub pow_pos : (w : ℕ) → 0 < 256 ^ w
 pow_pos zero = lit< tt
@@ -83,20 +84,42 @@ big_append (x ∷ s) t =
     sym (mul_assoc x (256 ^ length s) (256 ^ length t)) in
     omega (arith, big_append s t, add-mul (x * 256 ^ length s) (big_endian s) (256 ^ length t))
 
-pub one_byte : (s : List ℕ) (at : ℕ) → Bytes s → at < length s → Spelled s at 1 (get_or s at 0)
+-- one byte more at the end
+pub big_more : (s : List ℕ) (i : ℕ) → i < length s → big_endian (take (i + 1) s) ≡ big_endian (take i s) * 256 + get_or s i 0
 unfolding big_endian
-one_byte s at h lt = record { is = rw (drop-cons s at 0) (omega arith); below = h at }
+big_more s i h =
+    let one : take 1 (drop i s) ≡ get_or s i 0 ∷ [] = rw (drop-cons s i 0) refl in
+    rw (take-add i 1 s, one) (big_append (take i s) (get_or s i 0 ∷ []) ∙ omega arith)
 
-pub joined : (s : List ℕ) (at w v : ℕ) {x y : ℕ} → Spelled s at w x → Spelled s (at + w) v y → at + (w + v) ≤ length s
-    → Spelled s at (w + v) (x * 256 ^ v + y)
-joined s at w v X Y fits =
-    let back : List ℕ = take v (drop (at + w) s) in
-    let long : length back ≡ v = length-take-le v (drop (at + w) s) (simp length-drop (omega arith)) in
-    let cut : take (w + v) (drop at s) ≡ take w (drop at s) ++ back = take-add w v (drop at s) ∙ rw (drop-drop w at s) in
-    record {
-      is = rw (cut, big_append (take w (drop at s)) back, long, ← X.is, ← Y.is);
-      below = rw (pow-add 256 w v) (digits_lt X.below Y.below);
-    }
+-- the lists of a length that an integer may have
+module _ (s : List ℕ) where
+  whole : {n : ℕ} → length s ≡ n → big_endian s ≡ big_endian (take n s)
+  whole {n} e = ap big_endian (sym (take_all n s (omega arith)))
+
+  none : big_endian (take 0 s) ≡ 0
+  unfolding big_endian
+  none = refl
+
+  pub spelled_1 : length s ≡ 1 → big_endian s ≡ get_or s 0 0
+  spelled_1 e = omega (arith, whole e, none, big_more s 0 (omega arith))
+
+  pub spelled_2 : length s ≡ 2 → big_endian s ≡ get_or s 0 0 * 256 + get_or s 1 0
+  spelled_2 e = omega (arith, whole e, none, big_more s 0 (omega arith), big_more s 1 (omega arith))
+
+  pub spelled_4 : length s ≡ 4 → big_endian s ≡ ((get_or s 0 0 * 256 + get_or s 1 0) * 256 + get_or s 2 0) * 256 + get_or s 3 0
+  spelled_4 e =
+      omega (arith, whole e, none, big_more s 0 (omega arith), big_more s 1 (omega arith), big_more s 2 (omega arith), big_more s 3 (omega arith))
+
+  pub four : 4 < length s → 5 < length s → 6 < length s → 7 < length s → big_endian (take 8 s)
+      ≡ (((big_endian (take 4 s) * 256 + get_or s 4 0) * 256 + get_or s 5 0) * 256 + get_or s 6 0) * 256 + get_or s 7 0
+  four a b c d = omega (arith, big_more s 4 a, big_more s 5 b, big_more s 6 c, big_more s 7 d)
+
+  pub front : 3 < length s → big_endian (take 4 s) ≡ ((get_or s 0 0 * 256 + get_or s 1 0) * 256 + get_or s 2 0) * 256 + get_or s 3 0
+  front h =
+      omega (arith, none, big_more s 0 (omega arith), big_more s 1 (omega arith), big_more s 2 (omega arith), big_more s 3 (omega arith))
+
+  pub spelled_8 : length s ≡ 8 → big_endian s ≡ big_endian (take 8 s)
+  spelled_8 e = whole e
 
 -- ---- equality
 
@@ -123,26 +146,10 @@ same_false s t n = go (same_bytes s t) refl
     go true p = absurd (n (same_true s t p))
     go false p = p
 
-pub same_length : (s t : List ℕ) → (length t ≡ length s → ⊥) → same_bytes s t ≡ false
-same_length s t n = same_false s t (λ e. n (ap length (sym e)))
-
--- a loop that compares from the front has found no difference before byte i
-pub record Compared (s t : List ℕ) (i : ℕ) : Type 0 where
-  pub within : i ≤ length s
-  pub rest : same_bytes (drop i s) (drop i t) ≡ same_bytes s t
-
-module _ {s t : List ℕ} {i : ℕ} (inv : Compared s t i) where
-  pub none_differs : length s ≤ i → length t ≤ i → true ≡ same_bytes s t
-  unfolding same_bytes
-  none_differs h g = sym (rw (drop_of_length-le s h, drop_of_length-le t g)) ∙ inv.rest
-
-  module _ (h : i < length s) (g : i < length t) where
-    turn : same_bytes (drop i s) (drop i t) ≡ (eqb (get_or s i 0) (get_or t i 0) && same_bytes (drop (i + 1) s) (drop (i + 1) t))
-    unfolding same_bytes
-    turn = rw (drop-cons s i 0, drop-cons t i 0, add-one i)
-
-    pub one_differs : (get_or s i 0 ≡ get_or t i 0 → ⊥) → false ≡ same_bytes s t
-    one_differs n = sym (rw (turn, ne_eqb _ _ n)) ∙ inv.rest
-
-    pub one_agrees : get_or s i 0 ≡ get_or t i 0 → Compared s t (i + 1)
-    one_agrees e = record { within = omega arith; rest = sym (rw (turn, eq-eqb _ _ e)) ∙ inv.rest }
+-- as the library compares two slices
+pub same_pointwise : (s t : List ℕ) → same_bytes s t ≡ pointwise nat_eq s t
+unfolding same_bytes
+same_pointwise [] [] = refl
+same_pointwise [] (y ∷ t) = refl
+same_pointwise (x ∷ s) [] = refl
+same_pointwise (x ∷ s) (y ∷ t) = rw (same_pointwise s t)

@@ -18,7 +18,7 @@ use Rattle.tlv.specs.declared.Place.{Place}
 use Rattle.tlv.specs.declared.Read.{Read}
 use Rattle.tlv.specs.declared.Read.TheVariants.{Found, End, Malformed}
 use Rattle.tlv.proofs.Numbers.{number_size, byte}
-use Rattle.tlv.proofs.Elements.{found, type_ok}
+use Rattle.tlv.proofs.AtPlace.{found, type_ok}
 
 -- what an element that was found says of the list
 pub record Whole (b : List ℕ) (h : ℕ) (e : Element) (rest : List ℕ) : Type 0 where

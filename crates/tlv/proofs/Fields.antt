@@ -1,54 +1,72 @@
--- What the readers of fields answer, one law for each return. Assumes nothing.
-use mathlib.Core.Path.{◌≡◌, refl, sym, ap, ◌∙◌}
-use mathlib.Core.List.{List, []}
-use mathlib.Core.Option.{Option, none, some}
+-- The elements of a slice one after the other, and what is found in them. Assumes nothing.
+use mathlib.Core.Path.{◌≡◌, refl, sym, ap}
+use mathlib.Core.List.{List, [], ◌∷◌, ◌++◌}
 use Prim.Native.Nat.{ℕ, ◌-◌}
-use native.Mathlib.Omega.{arith}
-use lib.ListN.{take, drop}
-use Rattle.tlv.specs.Number.{integer}
-use Rattle.tlv.specs.Answers.{integer_of, integer_from}
-use Rattle.tlv.specs.Lists.{first_or}
-use Rattle.tlv.specs.Fields.{InsideOf, insides, the_inside, number_of, the_integer}
+use mathlib.Core.Bool.{true}
+use lib.ListN.{length, take, drop}
+use borrow.Author.Tests.{eq-eqb, ne_eqb}
+use Rattle.tlv.specs.Element.{Element, Cuts, done, broken, next, cuts}
+use Rattle.tlv.specs.Lists.{each, first_or}
+use Rattle.tlv.specs.Fields.{each_cut, inside_of, insides, elements, the_inside}
+use Rattle.tlv.specs.Bytes.{big_endian}
+use Rattle.tlv.specs.Number.{integer, integer_size}
+use Rattle.tlv.specs.Answers.{integer_of}
 use Rattle.tlv.specs.declared.Place.{Place}
-use Rattle.tlv.specs.declared.Part.{Part}
-use Rattle.tlv.specs.declared.IntegerRead.{IntegerRead}
-use Rattle.tlv.specs.declared.IntegerRead.TheVariants.{Integer, OtherSize}
+use Rattle.std.specs.declared.option.Option.TheVariants.{Some}
 use Rattle.tlv.proofs.Cuts.{Step}
-use Rattle.tlv.proofs.Gathered.{Stop, insides_found, insides_stop, Gathered, listed, rest_is}
+use Rattle.tlv.proofs.Gathered.{Stop, each_one, each_stop}
 
--- ---- the first inside
+-- ---- one step of an iteration
 
-module _ {k : ℕ} {s : List ℕ} {at : ℕ} (inv : Gathered listed (insides k) s at []) where
-  pub inside_here : {t start stop : ℕ} {n : Place} → Step s at t start stop n → t ≡ k → InsideOf s k (record { start = start; end = stop })
-  unfolding the_inside
-  inside_here st e = record { order = st.order; within = st.within; is = sym (ap (first_or []) (rest_is inv ∙ insides_found k st e)) }
+module _ {s : List ℕ} {at : ℕ} where
+  pub elements_next : {t start stop : ℕ} {n : Place} → Step s at t start stop n
+      → elements (drop at s) ≡ record { type = t; inside = take (stop - start) (drop start s) } ∷ elements (drop n.at s)
+  unfolding elements
+  elements_next st = each_one (λ e. e ∷ []) st refl
 
-  pub inside_none : Stop s at → InsideOf s k (record { start = 0; end = 0 })
-  unfolding the_inside
-  inside_none st = record { order = omega arith; within = omega arith; is = sym (ap (first_or []) (rest_is inv ∙ insides_stop k st)) }
+  pub elements_stop : Stop s at → elements (drop at s) ≡ []
+  unfolding elements
+  elements_stop st = each_stop (λ e. e ∷ []) st
+
+-- ---- all of it
+
+-- what f gives for each element of a list that was cut
+listed : {A : Type 0} (f : Element → List A) (c : Cuts) → each_cut f c ≡ each f (each_cut (λ e. e ∷ []) c)
+unfolding each_cut
+listed f done = refl
+listed f broken = refl
+listed f (next e rest) = ap (λ l. f e ++ l) (listed f rest)
+
+-- THE LAW OF AN ITERATION: what f gives for each element, from the list of elements
+pub each_listed : {A : Type 0} (f : Element → List A) (b : List ℕ) → each_cut f (cuts b) ≡ each f (elements b)
+unfolding elements
+each_listed f b = listed f (cuts b)
+
+pub insides_listed : (k : ℕ) (b : List ℕ) → insides k b ≡ each (inside_of k) (elements b)
+unfolding insides
+insides_listed k b = each_listed (inside_of k) b
 
 -- ---- an integer
 
-module _ (b : List ℕ) {r : IntegerRead} (e : r ≡ integer_of b) where
-  pub number_read : {n : ℕ} → r ≡ Integer n → n ≡ number_of b
-  unfolding integer_of number_of
-  number_read {n} f = go (integer b) refl
-    where
-      go : (o : Option ℕ) → integer b ≡ o → n ≡ number_of b
-      go none q = let g : integer_from none ≡ Integer n = rw (q, integer_of) at (sym e ∙ f) in let z : ◌≡◌ {A = ℕ} 0 1 = cc in absurd (omega arith)
-      go (some m) q = let g : integer_from (some m) ≡ Integer n = rw (q, integer_of) at (sym e ∙ f) in rw (q, number_of) (cc)
+pub integer_found : (s : List ℕ) (k : ℕ) {r : ℕ} → length s ≡ k → integer_size k ≡ true → r ≡ big_endian s → Some r ≡ integer_of s
+unfolding integer_of integer
+integer_found s k l q e = rw (l, q) (ap Some e)
 
-  pub number_other : r ≡ OtherSize → 0 ≡ number_of b
-  unfolding integer_of number_of
-  number_other f = go (integer b) refl
-    where
-      go : (o : Option ℕ) → integer b ≡ o → 0 ≡ number_of b
-      go none q = rw (q, number_of)
-      go (some m) q =
-          let g : integer_from (some m) ≡ OtherSize = rw (q, integer_of) at (sym e ∙ f) in
-          let z : ◌≡◌ {A = ℕ} 0 1 = cc in absurd (omega arith)
+-- ---- the first inside of a type
 
-pub number_inside : (k : ℕ) (s : List ℕ) (p : Part) {r : ℕ} → InsideOf s k p → r ≡ number_of (take (p.end - p.start) (drop p.start s))
-    → r ≡ the_integer k s
-unfolding the_integer
-number_inside k s p i e = e ∙ ap number_of i.is
+-- of elements that an iteration has left
+abbrev pub first_inside : ℕ → List Element → List ℕ
+first_inside k es = first_or [] (each (inside_of k) es)
+
+pub inside_listed : (k : ℕ) (b : List ℕ) → the_inside k b ≡ first_inside k (elements b)
+unfolding the_inside
+inside_listed k b = ap (first_or []) (insides_listed k b)
+
+module _ (k : ℕ) (e : Element) (es : List Element) where
+  pub inside_here : e.type ≡ k → first_inside k (e ∷ es) ≡ e.inside
+  unfolding inside_of
+  inside_here q = rw (eq-eqb k e.type (sym q)) refl
+
+  pub inside_later : (e.type ≡ k → ⊥) → first_inside k (e ∷ es) ≡ first_inside k es
+  unfolding inside_of
+  inside_later no' = rw (ne_eqb k e.type (λ q. no' (sym q))) refl

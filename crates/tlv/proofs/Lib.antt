@@ -1,6 +1,6 @@
 pub mod Bytes
 pub mod Numbers
-pub mod Elements
+pub mod AtPlace
 pub mod Cuts
 pub mod RoundTrip
 pub mod Sizes

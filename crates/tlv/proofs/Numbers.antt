@@ -1,32 +1,34 @@
 -- What `number_at` is at a place, by the tests that the reader makes. Assumes nothing.
-use mathlib.Core.Path.{◌≡◌, refl, sym, subst, ◌∙◌}
+use mathlib.Core.Path.{◌≡◌, refl, sym, ap, subst, ◌∙◌}
 use mathlib.Core.List.{List, [], ◌∷◌}
 use mathlib.Core.Bool.{Bool, true, false, cond}
 use Prim.Native.Nat.{ℕ, suc, ◌+◌, ◌-◌, ◌≤◌, ◌<◌}
 use native.Mathlib.Nat.{add_assoc}
 use native.Mathlib.Numerals.{add-one}
 use native.Mathlib.Omega.{arith}
-use borrow.Author.Tests.{lt-ltb, le-ltb, le-leb, lt-leb, ltb-true, ltb-false, leb-true, ne_eqb}
+use borrow.Author.Tests.{lt-ltb, le-ltb, le-leb, lt-leb, ltb-true, ltb-false, leb-true}
 use mathlib.Core.Logic.{◌⊎◌, inl, inr, ⊎_elim}
 use lib.ListN.{length, take, drop, get_or, length-drop, drop_of_length-le}
 use lib.Seq.{drop-cons}
 use lib.Dec.{leb, ltb, eqb}
+use Rattle.std.specs.List.{slice_range}
 use Rattle.tlv.specs.Bytes.{big_endian}
-use Rattle.tlv.specs.Number.{Num, unreadable, num, number, wide, width, least, integer_size}
-use Rattle.tlv.specs.Answers.{number_at, number_from}
-use Rattle.tlv.specs.declared.NumberRead.{NumberRead}
-use Rattle.tlv.specs.declared.NumberRead.TheVariants.{Value, Unreadable}
+use Rattle.tlv.specs.Number.{Num, unreadable, num, number, wide, width, least, integer, integer_size}
+use Rattle.tlv.specs.Answers.{number_at, number_from, integer_of}
+use Rattle.std.specs.declared.option.Option.{Option}
+use Rattle.std.specs.declared.option.Option.TheVariants.{None, Some}
+use Rattle.tlv.specs.declared.Number.{Number}
 
 pub drop-next : (s : List ℕ) (at : ℕ) → at < length s → drop at s ≡ get_or s at 0 ∷ drop (at + 1) s
 drop-next s at h = rw (add-one at, drop-cons s at 0)
 
 module _ (s : List ℕ) (at : ℕ) where
-  pub none_left : length s ≤ at → number_at s at ≡ Unreadable
+  pub none_left : length s ≤ at → number_at s at ≡ None
   unfolding number_at number
   none_left h = rw (drop_of_length-le s h)
 
   module _ (h : at < length s) where
-    pub one_byte : get_or s at 0 < 253 → number_at s at ≡ Value (get_or s at 0) (at + 1)
+    pub one_byte : get_or s at 0 < 253 → number_at s at ≡ Some (record { value = get_or s at 0; next = at + 1 })
     unfolding number_at number
     one_byte lt = rw (drop-next s at h, lt-ltb _ _ lt)
 
@@ -45,21 +47,30 @@ module _ (s : List ℕ) (at : ℕ) where
       unfolding number wide
       number_is = rw (drop-next s at h, le-ltb _ _ ge, length-drop (at + 1) s)
 
-      pub too_short : length s - (at + 1) < w → number_at s at ≡ Unreadable
+      pub too_short : length s - (at + 1) < w → number_at s at ≡ None
       unfolding number_at
       too_short lt = rw (number_is, lt-leb _ _ lt)
 
-      pub not_shortest : w ≤ length s - (at + 1) → v < l → number_at s at ≡ Unreadable
+      pub not_shortest : w ≤ length s - (at + 1) → v < l → number_at s at ≡ None
       unfolding number_at
       not_shortest le lt = rw (number_is, le-leb _ _ le, lt-leb _ _ lt)
 
-      pub many_bytes : w ≤ length s - (at + 1) → l ≤ v → number_at s at ≡ Value v (at + 1 + w)
+      pub many_bytes : w ≤ length s - (at + 1) → l ≤ v → number_at s at ≡ Some (record { value = v; next = at + 1 + w })
       unfolding number_at
       many_bytes le ge' = rw (number_is, le-leb _ _ le, le-leb _ _ ge', add_assoc at 1 w)
 
 -- ---- sizes
 
-pub width_size : (b : ℕ) → integer_size (width b) ≡ true
+pub width_most : (b : ℕ) → width b ≤ 8
+unfolding width
+width_most b = go (eqb b 253) (eqb b 254)
+  where
+    go : (x y : Bool) → cond x 2 (cond y 4 8) ≤ 8
+    go true y = omega arith
+    go false true = omega arith
+    go false false = omega arith
+
+width_size : (b : ℕ) → integer_size (width b) ≡ true
 unfolding width
 width_size b = go (eqb b 253) (eqb b 254)
   where
@@ -68,8 +79,21 @@ width_size b = go (eqb b 253) (eqb b 254)
     go false true = refl
     go false false = refl
 
-pub only_eight : (n : ℕ) → (n ≡ 1 → ⊥) → (n ≡ 2 → ⊥) → (n ≡ 4 → ⊥) → integer_size n ≡ eqb n 8
-only_eight n a b c = rw (ne_eqb n 1 a, ne_eqb n 2 b, ne_eqb n 4 c)
+-- what was read of the bytes that such a first byte announces
+module _ (s : List ℕ) (from b : ℕ) {next : ℕ} {c : List ℕ} {r : Option ℕ}
+    (cut : (from ≤ next) × (next ≤ length s) × (c ≡ slice_range s from next) × (length c + from ≡ next)) (e : r ≡ integer_of c) (w : next ≡ from + width b) where
+  pub width_read : r ≡ Some (big_endian (take (width b) (drop from s)))
+  unfolding integer_of integer
+  width_read =
+      let l : length c ≡ width b = omega arith in
+      let k : next - from ≡ width b = omega arith in
+      e ∙ rw (l, width_size b) (ap (λ x. Some (big_endian x)) (cut.2 ∙ ap (λ n. take n (drop from s)) k))
+
+  pub width_there : r ≡ None → ⊥
+  width_there f = let z : ◌≡◌ {A = ℕ} 0 1 = (let g = sym f ∙ width_read in cc) in omega arith
+
+  pub width_value : {v : ℕ} → r ≡ Some v → v ≡ big_endian (take (width b) (drop from s))
+  width_value f = let g = sym f ∙ width_read in cc
 
 -- ---- what a number that was found says
 
@@ -122,9 +146,9 @@ pub record Numbered (s : List ℕ) (at v next : ℕ) : Type 0 where
   pub within : next ≤ length s
 
 -- what each answer of the reader says of the list from its place on
-abbrev pub NumberSeen : List ℕ → ℕ → NumberRead → Type 0
-NumberSeen s at (Value v next) = Numbered s at v next
-NumberSeen s at Unreadable = number (drop at s) ≡ unreadable
+abbrev pub NumberSeen : List ℕ → ℕ → Option Number → Type 0
+NumberSeen s at (Some n) = Numbered s at n.value n.next
+NumberSeen s at None = number (drop at s) ≡ unreadable
 
 read_seen : (s : List ℕ) (at : ℕ) → NumberSeen s at (number_at s at)
 unfolding number_at
@@ -136,7 +160,7 @@ read_seen s at = go (number (drop at s)) refl
         let b = simp length-drop at (number_size (drop at s) v k p) in
         record { size = k; is = p; place = refl; some = b.0; within = omega arith }
 
-pub numbered : (s : List ℕ) (at : ℕ) {r a : NumberRead} → r ≡ number_at s at → r ≡ a → NumberSeen s at a
+pub numbered : (s : List ℕ) (at : ℕ) {r a : Option Number} → r ≡ number_at s at → r ≡ a → NumberSeen s at a
 numbered s at {r} {a} e f = subst (NumberSeen s at) (sym e ∙ f) (read_seen s at)
 
 pub byte : (s : List ℕ) (at : ℕ) → at < length s → get_or s at 0 < 253 → Numbered s at (get_or s at 0) (at + 1)

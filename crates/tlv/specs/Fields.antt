@@ -1,17 +1,20 @@
 -- What a container holds, by type: the insides of its elements of one type, and integers among them. Definitions only, and total: what is
 -- malformed ends the elements.
-use Rattle.std.specs.Prelude.{ℕ, ◌-◌, ◌≤◌, ◌≡◌, List, [], ◌++◌, map, eqb, length, take, drop}
+use Rattle.std.specs.Prelude.{ℕ, List, [], ◌∷◌, ◌++◌, map, eqb}
 use Rattle.std.proofs.Math.Option.{none, some}
 use Rattle.tlv.specs.Number.{integer}
 use Rattle.tlv.specs.Element.{Element, Cuts, done, broken, next, cuts}
 use Rattle.tlv.specs.Lists.{when, first_or}
-use Rattle.tlv.specs.declared.Part.{Part}
 
 -- what f gives for each element, one after the other
 unfoldable pub each_cut : {A : Type 0} → (Element → List A) → Cuts → List A
 each_cut f done = []
 each_cut f broken = []
 each_cut f (next e rest) = f e ++ each_cut f rest
+
+-- the elements that a list of bytes begins with: up to its end, or to where no element stands
+unfoldable pub elements : List ℕ → List Element
+elements b = each_cut (λ e. e ∷ []) (cuts b)
 
 unfoldable pub inside_of : ℕ → Element → List (List ℕ)
 inside_of t e = when (eqb t e.type) e.inside
@@ -33,9 +36,3 @@ the_inside t b = first_or [] (insides t b)
 
 unfoldable pub the_integer : ℕ → List ℕ → ℕ
 the_integer t b = number_of (the_inside t b)
-
--- p is a part of s that holds the inside of the first element of type t
-pub record InsideOf (s : List ℕ) (t : ℕ) (p : Part) : Type 0 where
-  pub order : p.start ≤ p.end
-  pub within : p.end ≤ length s
-  pub is : take (p.end - p.start) (drop p.start s) ≡ the_inside t s

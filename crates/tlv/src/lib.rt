@@ -1,12 +1,11 @@
 // NDN's elements: a type, a length and that many bytes, read at a place of a slice and never copied.
 #![tactic(auto)]
 
-ghost use Rattle.std.specs.Prelude.{◌≡◌, true, ◌+◌, ◌≤◌, ◌<◌, length};
-ghost use Rattle.tlv.specs.Bytes.{same_bytes};
-ghost use Rattle.tlv.specs.Number.{width, least, integer_size};
-ghost use Rattle.tlv.specs.Fields.{InsideOf, number_of, the_integer};
-ghost use Rattle.tlv.specs.Answers.{number_at, read_at, integer_of};
-ghost use Rattle.tlv.specs.Spelled.{Spelled};
+ghost use Rattle.std.specs.Prelude.{◌≡◌, ◌≤◌, length};
+ghost use Rattle.tlv.specs.Bytes.{same_bytes, big_endian};
+ghost use Rattle.tlv.specs.Number.{width, least};
+ghost use Rattle.tlv.specs.Fields.{elements, the_inside, number_of, the_integer};
+ghost use Rattle.tlv.specs.Answers.{number_at, read_at, integer_of, elements_left};
 
 // A position in a slice. It moves forward only by whole elements.
 #[derive(Clone, Copy)]
@@ -30,23 +29,25 @@ pub enum Read {
     Malformed,
 }
 
-// A part of a slice.
+// An element: its type, and its inside, which is a part of the bytes that it was read from.
 #[derive(Clone, Copy)]
-pub struct Part {
-    pub start: usize,
-    pub end: usize,
+pub struct Element<'a> {
+    pub typ: u32,
+    pub inside: &'a [u8],
 }
 
+// The elements of a slice from a place on: up to its end, or to where no element stands.
 #[derive(Clone, Copy)]
-pub enum IntegerRead {
-    Integer(u64),
-    OtherSize,
+pub struct Elements<'a> {
+    pub src: &'a [u8],
+    pub place: Place,
 }
 
+// A number and the place behind it.
 #[derive(Clone, Copy)]
-enum NumberRead {
-    Value { value: u64, next: usize },
-    Unreadable,
+struct Number {
+    value: u64,
+    next: usize,
 }
 
 impl Place {
@@ -95,10 +96,12 @@ impl Place {
         if s.len() <= at {
             return Read::End;
         }
-        let NumberRead::Value {
-            value: t,
-            next: middle,
-        } = number(s, at)
+        let Some(
+            Number {
+                value: t,
+                next: middle,
+            },
+        ) = number_at(s, at)
         else {
             return Read::Malformed;
         };
@@ -108,10 +111,12 @@ impl Place {
         if 4294967295 < t {
             return Read::Malformed;
         }
-        let NumberRead::Value {
-            value: len,
-            next: start,
-        } = number(s, middle)
+        let Some(
+            Number {
+                value: len,
+                next: start,
+            },
+        ) = number_at(s, middle)
         else {
             return Read::Malformed;
         };
@@ -130,203 +135,144 @@ impl Place {
     }
 }
 
-// The integer that `s` is: 1, 2, 4 or 8 bytes, high byte first.
-pub fn integer_of(s: &[u8]) -> IntegerRead
-    ensures { result ≡ integer_of s.now }
-{
-    let n = s.len();
-    if integer_size(n) {
-        IntegerRead::Integer(big_endian(s, 0, n))
-    } else {
-        IntegerRead::OtherSize
+impl<'a> Elements<'a> {
+    // All of a slice.
+    pub fn of(src: &'a [u8]) -> Elements<'a>
+        ensures left { elements_left result ≡ elements src.now }
+        ensures whole { (result.src ≡ src.entry) × (result.place.at ≡ 0) }
+    {
+        Elements {
+            src,
+            place: Place { at: 0 },
+        }
     }
 }
 
-// The inside of the first element of type `typ` in `s`; empty where there is none. The contract says what the part holds, and leaves open
-// where an empty one lies.
-pub fn inside_of(s: &[u8], typ: u32) -> Part
-    ensures { InsideOf s.now typ result }
-{
-    let mut place = Place { at: 0 };
-    loop {
-        match place.element(s) {
+impl<'a> Iterator for Elements<'a> {
+    ghost use Rattle.std.specs.Iterator.{YieldsFirstBy, item_count};
+    ghost use Rattle.tlv.specs.Answers.{element_of, elements_left};
+
+    type Item = Element<'a>;
+
+    ghost next_gives = { YieldsFirstBy element_of elements_left };
+
+    ghost remaining = { item_count elements_left };
+
+    #[inline(always)]
+    fn next(&mut self) -> Option<Element<'a>> {
+        let src = self.src;
+        match self.place.element(src) {
             Read::Found {
-                typ: t,
+                typ,
                 start,
                 end,
                 next,
             } => {
-                if t == typ {
-                    return Part { start, end };
-                }
-                place = next;
+                self.place = next;
+                Some(Element {
+                    typ,
+                    inside: &src[start..end],
+                })
             }
-            Read::End => {
-                return Part { start: 0, end: 0 };
-            }
-            Read::Malformed => {
-                return Part { start: 0, end: 0 };
-            }
+            Read::End => None,
+            Read::Malformed => None,
         }
     }
+}
+
+// The integer that `s` is: 1, 2, 4 or 8 bytes, high byte first.
+#[tactic(auto, unfolding(crate::specs::Number::integer, crate::specs::Answers::integer_of))]
+pub fn integer_of(s: &[u8]) -> Option<u64>
+    ensures { result ≡ integer_of s.now }
+{
+    match s {
+        [a] => Some(u64::from(*a)),
+        [a, b] => Some(u64::from(u16::from_be_bytes([*a, *b]))),
+        [a, b, c, d] => Some(u64::from(u32::from_be_bytes([*a, *b, *c, *d]))),
+        [a, b, c, d, e, f, g, h] => Some(u64::from_be_bytes([*a, *b, *c, *d, *e, *f, *g, *h])),
+        _ => None,
+    }
+}
+
+// The inside of the first element of type `typ` in `s`; empty where there is none.
+pub fn inside_of(s: &[u8], typ: u32) -> &[u8]
+    ensures { result.now ≡ the_inside typ s.now }
+{
+    for element in Elements::of(s) {
+        if element.typ == typ {
+            return element.inside;
+        }
+    }
+    &[]
 }
 
 // The integer that `s` is; 0 where it has another size.
+#[tactic(auto, unfolding(crate::specs::Fields::number_of, crate::specs::Answers::integer_of))]
 pub fn number_of(s: &[u8]) -> u64
     ensures { result ≡ number_of s.now }
 {
-    match integer_of(s) {
-        IntegerRead::Integer(n) => n,
-        IntegerRead::OtherSize => 0,
-    }
+    integer_of(s).unwrap_or(0)
 }
 
 // The integer in the first element of type `typ` in `s`; 0 where there is none.
+#[tactic(auto, unfolding(crate::specs::Fields::the_integer))]
 pub fn number_in(s: &[u8], typ: u32) -> u64
     ensures { result ≡ the_integer typ s.now }
 {
-    let part = inside_of(s, typ);
-    let start = part.start;
-    let end = part.end;
-    number_of(&s[start..end])
+    number_of(inside_of(s, typ))
 }
 
 // Whether two slices hold the same bytes.
+#[tactic(auto, using(crate::proofs::Bytes::same_pointwise))]
 pub fn same_bytes(a: &[u8], b: &[u8]) -> bool
     ensures { result ≡ same_bytes a.now b.now }
 {
-    let n = a.len();
-    if b.len() != n {
-        return false;
-    }
-    let mut i = 0;
-    while i < n {
-        if a[i] != b[i] {
-            return false;
-        }
-        i += 1;
-    }
-    true
+    a == b
 }
 
 // The number at `at`, in its shortest form.
-fn number(s: &[u8], at: usize) -> NumberRead
+fn number_at(s: &[u8], at: usize) -> Option<Number>
     ensures { result ≡ number_at s.now at }
 {
     if s.len() <= at {
-        return NumberRead::Unreadable;
+        return None;
     }
-    let b = s[at];
+    let first = s[at];
     let from = at + 1;
-    if b < 253 {
-        return NumberRead::Value {
-            value: b as u64,
+    if first < 253 {
+        return Some(Number {
+            value: u64::from(first),
             next: from,
-        };
+        });
     }
-    let w = width_of(b);
-    if s.len() - from < w {
-        return NumberRead::Unreadable;
+    let next = from + width_of(first);
+    let value = integer_of(s.get(from..next)?)?;
+    if value < least_of(first) {
+        return None;
     }
-    let v = big_endian(s, from, w);
-    if v < least_of(b) {
-        return NumberRead::Unreadable;
-    }
-    NumberRead::Value {
-        value: v,
-        next: from + w,
-    }
+    Some(Number { value, next })
 }
 
 // How many bytes spell the number after a first byte of 253, 254 or 255.
+#[tactic(auto, unfolding(crate::specs::Number::width))]
 pub fn width_of(b: u8) -> usize
     ensures { result ≡ width b }
 {
-    if b == 253 {
-        return 2;
+    match b {
+        253 => 2,
+        254 => 4,
+        _ => 8,
     }
-    if b == 254 {
-        return 4;
-    }
-    8
 }
 
 // The least number that needs that many bytes.
+#[tactic(auto, unfolding(crate::specs::Number::least))]
 fn least_of(b: u8) -> u64
     ensures { result ≡ least b }
 {
-    if b == 253 {
-        return 253;
+    match b {
+        253 => 253,
+        254 => 65536,
+        _ => 4294967296,
     }
-    if b == 254 {
-        return 65536;
-    }
-    4294967296
-}
-
-fn integer_size(n: usize) -> bool
-    ensures { result ≡ integer_size n }
-{
-    if n == 1 {
-        return true;
-    }
-    if n == 2 {
-        return true;
-    }
-    if n == 4 {
-        return true;
-    }
-    n == 8
-}
-
-// The number that the `w` bytes from `at` on spell, high byte first; `w` is 1, 2, 4 or 8.
-fn big_endian(s: &[u8], at: usize, w: usize) -> u64
-    requires { (integer_size w ≡ true) × (at + w ≤ length s.now) }
-    ensures { Spelled s.now at w result }
-{
-    if w == 1 {
-        return u8_at(s, at);
-    }
-    if w == 2 {
-        return u16_at(s, at);
-    }
-    if w == 4 {
-        return u32_at(s, at);
-    }
-    u64_at(s, at)
-}
-
-fn u8_at(s: &[u8], at: usize) -> u64
-    requires { at + 1 ≤ length s.now }
-    ensures { Spelled s.now at 1 result }
-{
-    s[at] as u64
-}
-
-// Each width is two halves of the one before it.
-fn u16_at(s: &[u8], at: usize) -> u64
-    requires { at + 2 ≤ length s.now }
-    ensures { Spelled s.now at 2 result }
-{
-    let high = u8_at(s, at);
-    let low = u8_at(s, at + 1);
-    high * 256 + low
-}
-
-fn u32_at(s: &[u8], at: usize) -> u64
-    requires { at + 4 ≤ length s.now }
-    ensures { Spelled s.now at 4 result }
-{
-    let high = u16_at(s, at);
-    let low = u16_at(s, at + 2);
-    high * 65536 + low
-}
-
-fn u64_at(s: &[u8], at: usize) -> u64
-    requires { at + 8 ≤ length s.now }
-    ensures { Spelled s.now at 8 result }
-{
-    let high = u32_at(s, at);
-    let low = u32_at(s, at + 4);
-    high * 4294967296 + low
 }

@@ -4,7 +4,7 @@ use native.Mathlib.Omega.{arith}
 use mathlib.Core.Path.{sym}
 use Prim.Native.Nat.{◌+◌}
 use Rattle.tlv.proofs.Numbers.{byte, no_byte}
-use Rattle.tlv.proofs.Elements.{at_end, malformed_type, no_length, too_long_lem, found, type_low, type_ok}
+use Rattle.tlv.proofs.AtPlace.{at_end, malformed_type, no_length, too_long_lem, found, type_low, type_ok}
 use Rattle.tlv.proofs.Place.element.Statement.{statement}
 use Rattle.tlv.proofs.Place.element.Tie as tie
 

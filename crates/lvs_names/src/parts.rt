@@ -1,0 +1,13 @@
+// A component as a part of its name. Apart from the readers, since the contracts that name it must not stand where it is declared.
+ghost use Rattle.tlv.specs.Bytes.{Bytes};
+ghost use Rattle.lvs_names.specs.Alone.{is_alone};
+ghost use Rattle.std.specs.Prelude.{◌≡◌, true};
+
+/// A component that is cut out: its bytes, and how many of them are its type and length.
+#[derive(Clone, Copy)]
+pub struct Component<'a> {
+    pub bytes: &'a [u8],
+    pub header: usize,
+    pub ghost fits: { Bytes bytes.now },
+    pub ghost alone: { is_alone bytes.now header ≡ true },
+}
