@@ -187,5 +187,6 @@ module _ (t : ℕ) (b : List ℕ) where
   argument_item = refl
 
   -- what holds of a sort that is known
-  pub of_sort : {k j : Sort} {l : Lists} {s s' : Output} {r : Option (Unit {0})} → k ≡ j → l ≡ item_of j t b → Describes l s s' r → Describes (item_of k t b) s s' r
+  pub of_sort : {k j : Sort} {l : Lists} {s s' : Output} {r : Option (Unit {0})} → k ≡ j → l ≡ item_of j t b → Describes l s s' r
+      → Describes (item_of k t b) s s' r
   of_sort e p d = rw e (describes_as p d)

@@ -72,7 +72,8 @@ module _ {a b : Lists} {s s' s'' : Output} where
   describes_then {r} p q =
       record { same_numbers = q.same_numbers ∙ p.same_numbers; same_texts = q.same_texts ∙ p.same_texts; by_room = go r q.by_room }
     where
-      go : (o : Option (Unit {0})) → MatchOption o (Fits b s' → ⊥) (λ _. Wrote b s' s'') → MatchOption o (Fits (joined a b) s → ⊥) (λ _. Wrote (joined a b) s s'')
+      go : (o : Option (Unit {0})) → MatchOption o (Fits b s' → ⊥) (λ _. Wrote b s' s'')
+          → MatchOption o (Fits (joined a b) s → ⊥) (λ _. Wrote (joined a b) s s'')
       go None no' = λ f. no' (second_fits b p.by_room f)
       go (Some x) w = wrote_then p.by_room w
 

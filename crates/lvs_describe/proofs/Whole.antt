@@ -14,6 +14,7 @@ use Rattle.lvs_description.specs.Description.{lists_of, numbers_of, texts_of}
 use Rattle.lvs_description.specs.Answers.{on_front}
 use Rattle.lvs_describe.specs.Lent.{Fits, Put, Lent, Describes}
 use Rattle.lvs_describe.specs.Answers.{described}
+use Rattle.lvs_describe.specs.declared.Lengths.{Lengths}
 use Rattle.lvs_describe.specs.declared.output.Output.{Output}
 
 -- what was put from the front on
@@ -75,19 +76,18 @@ module _ (m : Model) (ns ts : List ℕ) where
         let t : length l.texts ≤ length ts = omega (arith, d.by_room.texts_taken, S.texts_all) in
         rw (le-leb _ _ n, le-leb _ _ t)
 
+    -- the answer
+    abbrev sizes : Lengths
+    sizes = record { numbers = length ns - s'.numbers_left; texts = length ts - s'.texts_left }
+
     pub all_put : {b : Output} {r : Option (Unit {0})} {x y : List ℕ} → Describes l a b r → x ≡ b.numbers.now → y ≡ b.texts.now
-        → record { answer = Some (record { numbers = length ns - s'.numbers_left; texts = length ts - s'.texts_left }); numbers = x; texts = y }
-        ≡ described m ns ts
+        → record { answer = Some sizes; numbers = x; texts = y } ≡ described m ns ts
     unfolding described numbers_of texts_of
-    all_put {b} {r} {x} {y} f g h =
-        (λ i. record { answer = Some (record { numbers = length ns - s'.numbers_left; texts = length ts - s'.texts_left }); numbers = g i; texts = h i }) ∙ go r f
+    all_put {b} {r} {x} {y} f g h = (λ i. record { answer = Some sizes; numbers = g i; texts = h i }) ∙ go r f
       where
-        go : (o : Option (Unit {0})) → Describes l a b o
-            → record { answer = Some (record { numbers = length ns - s'.numbers_left; texts = length ts - s'.texts_left }); numbers = b.numbers.now; texts = b.texts.now }
-            ≡ described m ns ts
+        go : (o : Option (Unit {0})) → Describes l a b o → record { answer = Some sizes; numbers = b.numbers.now; texts = b.texts.now } ≡ described m ns ts
         go None f = absurd (f.by_room (fitting A fits))
         go (Some x) f =
-            let ns' : b.numbers.now ≡ on_front l.numbers ns = lent_front (A.numbers_all ∙ ap length (sym p)) f.by_room.numbers_are ∙ ap (on_front l.numbers) p in
-            let ts' : b.texts.now ≡ on_front l.texts ts = lent_front (A.texts_all ∙ ap length (sym q)) f.by_room.texts_are ∙ ap (on_front l.texts) q in
-            rw fits
-            (λ i. record { answer = Some (record { numbers = numbers_size i; texts = texts_size i }); numbers = ns' i; texts = ts' i })
+            let n : b.numbers.now ≡ on_front l.numbers ns = lent_front (A.numbers_all ∙ ap length (sym p)) f.by_room.numbers_are ∙ ap (on_front l.numbers) p in
+            let t : b.texts.now ≡ on_front l.texts ts = lent_front (A.texts_all ∙ ap length (sym q)) f.by_room.texts_are ∙ ap (on_front l.texts) q in
+            rw fits (λ i. record { answer = Some (record { numbers = numbers_size i; texts = texts_size i }); numbers = n i; texts = t i })

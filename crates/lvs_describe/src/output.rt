@@ -1,5 +1,4 @@
 // The two lists that a description is put into.
-ghost use Rattle.std.specs.Prelude.{◌≡◌};
 ghost use Rattle.lvs_description.specs.Format.{put, put_text};
 ghost use Rattle.lvs_describe.specs.Parts.{nothing, number, bytes};
 ghost use Rattle.lvs_describe.specs.Lent.{Describes};

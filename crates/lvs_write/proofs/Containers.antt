@@ -220,7 +220,8 @@ term_chosen = choices term term_from term_bytes (λ l. refl) each_case
 
 -- ---- which number it was
 
-module _ {f : Lists → Bytes} (h : ℕ → Lists → Bytes) (f-is : (l : Lists) → f l ≡ bind (take_number l) (λ x. h x.0 x.1)) {s : Cursor} {before now : List ℕ} where
+module _ {f : Lists → Bytes} (h : ℕ → Lists → Bytes) (f-is : (l : Lists) → f l ≡ bind (take_number l) (λ x. h x.0 x.1)) {s : Cursor}
+    {before now : List ℕ} where
   -- there is none
   no_number : Missing take_number s → Writes f before now s None
   no_number e = none_wrote (record { is = f-is (left s) ∙ rw e.is })
@@ -261,11 +262,13 @@ module _ {s m : Cursor} {v : ℕ} (T : Took take_number s v m) where
       go (suc zero) p q l = absurd (q refl)
       go (suc (suc n)) p q l = refl
 
-  pub argument_value : {before now : List ℕ} {r : Option Cursor} → v ≡ 0 → Writes (spelled (component type.Value)) before now m r → Writes (spelled argument) before now s r
+  pub argument_value : {before now : List ℕ} {r : Option Cursor} → v ≡ 0 → Writes (spelled (component type.Value)) before now m r
+      → Writes (spelled argument) before now s r
   unfolding argument_bytes
   argument_value e W = at_number argument_bytes argument_chosen T 0 e W
 
-  pub argument_tag : {before now : List ℕ} {r : Option Cursor} → v ≡ 1 → Writes (spelled (integer type.Tag)) before now m r → Writes (spelled argument) before now s r
+  pub argument_tag : {before now : List ℕ} {r : Option Cursor} → v ≡ 1 → Writes (spelled (integer type.Tag)) before now m r
+      → Writes (spelled argument) before now s r
   unfolding argument_bytes
   argument_tag e W = at_number argument_bytes argument_chosen T 1 e W
 
@@ -278,7 +281,8 @@ module _ {s m : Cursor} {v : ℕ} (T : Took take_number s v m) where
       go (suc zero) p q l = absurd (q refl)
       go (suc (suc n)) p q l = refl
 
-  pub term_value : {before now : List ℕ} {r : Option Cursor} → v ≡ 0 → Writes (spelled (component type.Value)) before now m r → Writes (spelled term) before now s r
+  pub term_value : {before now : List ℕ} {r : Option Cursor} → v ≡ 0 → Writes (spelled (component type.Value)) before now m r
+      → Writes (spelled term) before now s r
   unfolding term_bytes
   term_value e W = at_number term_bytes term_chosen T 0 e W
 

@@ -4,7 +4,7 @@
 // A layer below the public calls: `requires` asks that there is room for all of it, which the caller tests once for a whole element.
 #![tactic(auto)]
 
-ghost use Rattle.std.specs.Prelude.{◌≡◌, ◌+◌, ◌≤◌, ◌<◌, ◌^◌, length};
+ghost use Rattle.std.specs.Prelude.{◌≡◌, ◌+◌, ◌≤◌, ◌<◌, length};
 ghost use Rattle.tlv.specs.Bytes.{big_endian_bytes};
 ghost use Rattle.tlv.specs.Number.{number_bytes, mark};
 ghost use Rattle.tlv_writer.specs.Stored.{Stored, Digits};

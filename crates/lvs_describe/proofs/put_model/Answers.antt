@@ -8,8 +8,10 @@ returns-in_err-pair c =
 
 pub returns-in_err-put_row : goal.returns-in_err-put_row
 returns-in_err-put_row c =
-    rw c.from_residual-in_err-put_row.ensures (describes_as (model_is _ c.number_in-start.ensures c.number_in-count.ensures) (describes_then c.in_ok-pair.ensures (describes_stop _ c.in_err-put_row.ensures)))
+    rw c.from_residual-in_err-put_row.ensures (describes_as (model_is _ c.number_in-start.ensures c.number_in-count.ensures)
+    (describes_then c.in_ok-pair.ensures (describes_stop _ c.in_err-put_row.ensures)))
 
 pub returns : goal.returns
 returns c =
-    describes_as (model_is _ c.number_in-start.ensures c.number_in-count.ensures) (describes_then c.in_ok-pair.ensures (describes_then c.in_ok-put_row.ensures c.put_row-2.ensures))
+    describes_as (model_is _ c.number_in-start.ensures c.number_in-count.ensures) (describes_then c.in_ok-pair.ensures
+    (describes_then c.in_ok-put_row.ensures c.put_row-2.ensures))

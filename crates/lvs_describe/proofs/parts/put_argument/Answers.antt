@@ -8,11 +8,13 @@ use Rattle.lvs_describe.proofs.parts.put_argument.Goals as goal
 
 pub loop-element-init : goal.loop-element-init
 loop-element-init c =
-    (ap first_argument (ap elements_left c.into_iter-element-iterator.ensures.into_iter_gives ∙ c.of-element-items.ensures.left) ∙ sym (argument_listed _), refl)
+    let all = ap elements_left c.into_iter-element-iterator.ensures.into_iter_gives ∙ c.of-element-items.ensures.left in
+    (ap first_argument all ∙ sym (argument_listed _), refl)
 
 pub returns-then-element-eq-VALUE : goal.returns-then-element-eq-VALUE
 returns-then-element-eq-VALUE c =
-    let is = sym c.loop-element.invariant.0 ∙ ap first_argument c.in-Some.ensures.steps ∙ value_first _ _ c.if-element-eq-VALUE.true in rw (← c.loop-element.invariant.1) (describes_as (value_argument _ _ is) c.put_component.ensures)
+    let is = sym c.loop-element.invariant.0 ∙ ap first_argument c.in-Some.ensures.steps ∙ value_first _ _ c.if-element-eq-VALUE.true in
+    rw (← c.loop-element.invariant.1) (describes_as (value_argument _ _ is) c.put_component.ensures)
 
 pub returns-then-element-eq-TAG : goal.returns-then-element-eq-TAG
 returns-then-element-eq-TAG c =
@@ -21,8 +23,10 @@ returns-then-element-eq-TAG c =
 
 pub loop-element-preserved : goal.loop-element-preserved
 loop-element-preserved c =
-    (sym (other_first _ _ c.if-element-eq-VALUE.false c.if-element-eq-TAG.false) ∙ sym (ap first_argument c.in-Some.ensures.steps) ∙ c.loop-element.invariant.0, c.loop-element.invariant.1)
+    let other = other_first _ _ c.if-element-eq-VALUE.false c.if-element-eq-TAG.false in
+    (sym other ∙ sym (ap first_argument c.in-Some.ensures.steps) ∙ c.loop-element.invariant.0, c.loop-element.invariant.1)
 
 pub returns : goal.returns
 returns c =
-    rw (← c.loop-element.invariant.1) (describes_as (tag_argument _ (sym c.loop-element.invariant.0 ∙ ap first_argument c.in-None.ensures.steps.0)) c.pair-2.ensures)
+    let is = sym c.loop-element.invariant.0 ∙ ap first_argument c.in-None.ensures.steps.0 in
+    rw (← c.loop-element.invariant.1) (describes_as (tag_argument _ is) c.pair-2.ensures)

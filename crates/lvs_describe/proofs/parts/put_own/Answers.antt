@@ -8,8 +8,10 @@ returns-then-parents-lt1 c = describes_as (no_parent _ c.number_in-id.ensures c.
 
 pub returns-in_err-number : goal.returns-in_err-number
 returns-in_err-number c =
-    rw c.from_residual.ensures (describes_as (with_parent _ c.number_in-id.ensures c.requires c.if-parents-lt1.false refl) (describes_stop _ c.in_err-number.ensures))
+    rw c.from_residual.ensures (describes_as (with_parent _ c.number_in-id.ensures c.requires c.if-parents-lt1.false refl)
+    (describes_stop _ c.in_err-number.ensures))
 
 pub returns : goal.returns
 returns c =
-    describes_as (with_parent _ c.number_in-id.ensures c.requires c.if-parents-lt1.false c.number_in.ensures) (describes_then c.in_ok-number.ensures c.pair-2.ensures)
+    describes_as (with_parent _ c.number_in-id.ensures c.requires c.if-parents-lt1.false c.number_in.ensures)
+    (describes_then c.in_ok-number.ensures c.pair-2.ensures)

@@ -3,7 +3,8 @@ use Rattle.std.proofs.Common.{sym, ap, ◌∙◌, arith}
 use Rattle.tlv.specs.Answers.{elements_left}
 use Rattle.lvs_describe.proofs.Puts.{describes_then, describes_stop, describes_as}
 use Rattle.lvs_describe.proofs.Walked.{walk_first, walk_past, walk_item, walk_stopped, walk_end, walk_none, walk_unnumbered, walk_shorter}
-use Rattle.lvs_describe.proofs.Containers.{call_is, pattern_edge_is, plain_edge_is, node_is, of_sort, node_item, symbol_item, parent_item, name_item, value_edge_item, pattern_edge_item, signer_item, constraint_item}
+use Rattle.lvs_describe.proofs.Containers.{call_is, pattern_edge_is, plain_edge_is, node_is, of_sort, node_item, symbol_item, parent_item, name_item}
+use Rattle.lvs_describe.proofs.Containers.{value_edge_item, pattern_edge_item, signer_item, constraint_item}
 use Rattle.lvs_describe.proofs.Containers.{option_item, value_item, tag_item, call_item, argument_item}
 use Rattle.lvs_describe.proofs.rows.+puts.Goals as goal
 
@@ -33,7 +34,8 @@ put_counted-loop-element-preserved-in-Continue-branch-2 t c =
 
 pub put_counted-returns-in_err-put_item : goal.put_counted-returns-in_err-put_item
 put_counted-returns-in_err-put_item t c =
-    rw c.from_residual-in_err-put_item.ensures (walk_stopped c.loop-element.invariant c.in-Some.ensures.steps c.requires c.in_ok-number.ensures (sym c.holds.ensures ∙ c.if-holds.true) c.in_err-put_item.ensures)
+    rw c.from_residual-in_err-put_item.ensures (walk_stopped c.loop-element.invariant c.in-Some.ensures.steps c.requires c.in_ok-number.ensures
+    (sym c.holds.ensures ∙ c.if-holds.true) c.in_err-put_item.ensures)
 
 pub put_counted-loop-element-preserved : goal.put_counted-loop-element-preserved
 put_counted-loop-element-preserved t c = walk_past c.loop-element.invariant c.in-Some.ensures.steps (sym c.holds.ensures ∙ c.if-holds.false)
@@ -86,19 +88,23 @@ put_node-returns-in_err-put_own t c = rw c.from_residual.ensures (describes_as (
 
 pub put_node-returns-in_err-put_counted : goal.put_node-returns-in_err-put_counted
 put_node-returns-in_err-put_counted t c =
-    rw c.from_residual-in_err-put_counted.ensures (describes_as (node_is _) (describes_then c.in_ok-put_own.ensures (describes_stop _ c.in_err-put_counted.ensures)))
+    rw c.from_residual-in_err-put_counted.ensures (describes_as (node_is _) (describes_then c.in_ok-put_own.ensures
+    (describes_stop _ c.in_err-put_counted.ensures)))
 
 pub put_node-returns-in_err-put_counted-2 : goal.put_node-returns-in_err-put_counted-2
 put_node-returns-in_err-put_counted-2 t c =
-    rw c.from_residual-in_err-put_counted-2.ensures (describes_as (node_is _) (describes_then c.in_ok-put_own.ensures (describes_then c.in_ok-put_counted.ensures (describes_stop _ c.in_err-put_counted-2.ensures))))
+    rw c.from_residual-in_err-put_counted-2.ensures (describes_as (node_is _) (describes_then c.in_ok-put_own.ensures
+    (describes_then c.in_ok-put_counted.ensures (describes_stop _ c.in_err-put_counted-2.ensures))))
 
 pub put_node-returns-in_err-put_counted-3 : goal.put_node-returns-in_err-put_counted-3
 put_node-returns-in_err-put_counted-3 t c =
-    rw c.from_residual-in_err-put_counted-3.ensures (describes_as (node_is _) (describes_then c.in_ok-put_own.ensures (describes_then c.in_ok-put_counted.ensures (describes_then c.in_ok-put_counted-2.ensures (describes_stop _ c.in_err-put_counted-3.ensures)))))
+    rw c.from_residual-in_err-put_counted-3.ensures (describes_as (node_is _) (describes_then c.in_ok-put_own.ensures
+    (describes_then c.in_ok-put_counted.ensures (describes_then c.in_ok-put_counted-2.ensures (describes_stop _ c.in_err-put_counted-3.ensures)))))
 
 pub put_node-returns : goal.put_node-returns
 put_node-returns t c =
-    describes_as (node_is _) (describes_then c.in_ok-put_own.ensures (describes_then c.in_ok-put_counted.ensures (describes_then c.in_ok-put_counted-2.ensures (describes_then c.in_ok-put_counted-3.ensures c.put_counted-4.ensures))))
+    describes_as (node_is _) (describes_then c.in_ok-put_own.ensures (describes_then c.in_ok-put_counted.ensures
+    (describes_then c.in_ok-put_counted-2.ensures (describes_then c.in_ok-put_counted-3.ensures c.put_counted-4.ensures))))
 
 pub put_pattern_edge-returns-in_err-pair : goal.put_pattern_edge-returns-in_err-pair
 put_pattern_edge-returns-in_err-pair t c =

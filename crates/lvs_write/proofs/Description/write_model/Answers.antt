@@ -9,8 +9,10 @@ returns-in_err-count c =
 
 pub returns-in_err-nodes : goal.returns-in_err-nodes
 returns-in_err-nodes c =
-    rw c.from_residual-in_err-nodes.ensures (wrote_as model_parts (then_wrote c.write_version-version.ensures (then_wrote c.in_ok-count.ensures (stop_wrote _ c.in_err-nodes.ensures) (search rules)) (search rules)))
+    rw c.from_residual-in_err-nodes.ensures (wrote_as model_parts (then_wrote c.write_version-version.ensures (then_wrote c.in_ok-count.ensures
+    (stop_wrote _ c.in_err-nodes.ensures) (search rules)) (search rules)))
 
 pub returns : goal.returns
 returns c =
-    wrote_as model_parts (then_wrote c.write_version-version.ensures (then_wrote c.in_ok-count.ensures (then_wrote c.in_ok-nodes.ensures c.write_many-2.ensures (search rules)) (search rules)) (search rules))
+    wrote_as model_parts (then_wrote c.write_version-version.ensures (then_wrote c.in_ok-count.ensures
+    (then_wrote c.in_ok-nodes.ensures c.write_many-2.ensures (search rules)) (search rules)) (search rules))

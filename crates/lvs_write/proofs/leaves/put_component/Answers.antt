@@ -10,7 +10,8 @@ put_header-inside-requires c = header_fits _ _ _ c.element_size-size.ensures _ c
 
 pub returns-then-has_room : goal.returns-then-has_room
 returns-then-has_room c =
-    component_stored _ _ _ _ _ c.element_size-n.ensures c.element_size-size.ensures c.has_room.ensures c.if-has_room.true c.put_header-inside.ensures c.put_text.ensures
+    component_stored _ _ _ _ _ c.element_size-n.ensures c.element_size-size.ensures c.has_room.ensures c.if-has_room.true
+    c.put_header-inside.ensures c.put_text.ensures
 
 pub returns-else-has_room : goal.returns-else-has_room
 returns-else-has_room c =

@@ -10,11 +10,13 @@ put_header-inside-requires c = header_fits _ _ _ c.element_size-size.ensures _ c
 
 pub put_digits-requires : goal.put_digits-requires
 put_digits-requires c =
-    width_digits _ c.integer_width-w.ensures (omega arith) (inside_fits _ _ _ c.element_size-size.ensures c.has_room.ensures c.if-has_room.true c.put_header-inside.ensures)
+    width_digits _ c.integer_width-w.ensures (omega arith)
+    (inside_fits _ _ _ c.element_size-size.ensures c.has_room.ensures c.if-has_room.true c.put_header-inside.ensures)
 
 pub returns-then-has_room : goal.returns-then-has_room
 returns-then-has_room c =
-    puts_all _ _ _ c.element_size-size.ensures (integer_size_lem _ c.integer_width-w.ensures) c.put_header-inside.ensures (integer_stored _ c.integer_width-w.ensures c.put_digits.ensures)
+    puts_all _ _ _ c.element_size-size.ensures (integer_size_lem _ c.integer_width-w.ensures) c.put_header-inside.ensures
+    (integer_stored _ c.integer_width-w.ensures c.put_digits.ensures)
 
 pub returns-else-has_room : goal.returns-else-has_room
 returns-else-has_room c =

@@ -25,12 +25,16 @@ slice_bounds-put_edge_inside-end c = inside_fits _ _ _ c.element_size-size.ensur
 
 pub put_edge_inside-requires : goal.put_edge_inside-requires
 put_edge_inside-requires c =
-    lent_room _ _ _ (edge_length _ _ _ c.integer_size-first.ensures c.element_size.ensures c.element_size-2.ensures) (inside_fits _ _ _ c.element_size-size.ensures c.has_room.ensures c.if-has_room.true c.put_header-start.ensures)
+    lent_room _ _ _ (edge_length _ _ _ c.integer_size-first.ensures c.element_size.ensures c.element_size-2.ensures)
+    (inside_fits _ _ _ c.element_size-size.ensures c.has_room.ensures c.if-has_room.true c.put_header-start.ensures)
 
 pub returns-then-has_room : goal.returns-then-has_room
 returns-then-has_room c =
-    puts_lent _ _ _ c.element_size-size.ensures (edge_length _ _ _ c.integer_size-first.ensures c.element_size.ensures c.element_size-2.ensures) c.put_header-start.ensures refl (inside_fits _ _ _ c.element_size-size.ensures c.has_room.ensures c.if-has_room.true c.put_header-start.ensures) c.put_edge_inside.ensures
+    puts_lent _ _ _ c.element_size-size.ensures
+    (edge_length _ _ _ c.integer_size-first.ensures c.element_size.ensures c.element_size-2.ensures) c.put_header-start.ensures refl
+    (inside_fits _ _ _ c.element_size-size.ensures c.has_room.ensures c.if-has_room.true c.put_header-start.ensures) c.put_edge_inside.ensures
 
 pub returns-else-has_room : goal.returns-else-has_room
 returns-else-has_room c =
-    puts_none _ _ _ c.element_size-size.ensures _ (edge_length _ _ _ c.integer_size-first.ensures c.element_size.ensures c.element_size-2.ensures) c.has_room.ensures c.if-has_room.false
+    puts_none _ _ _ c.element_size-size.ensures _
+    (edge_length _ _ _ c.integer_size-first.ensures c.element_size.ensures c.element_size-2.ensures) c.has_room.ensures c.if-has_room.false

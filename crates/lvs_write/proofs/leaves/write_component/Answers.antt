@@ -11,8 +11,10 @@ returns-in_err-kind c =
 
 pub returns-in_err-text : goal.returns-in_err-text
 returns-in_err-text c =
-    rw c.from_residual-in_err-text.ensures (leaf_missed (λ e. el type.Value (el e.type e.inside)) (component_spelled _) (component_short c.in_ok-kind.ensures c.in_err-text.ensures))
+    rw c.from_residual-in_err-text.ensures (leaf_missed (λ e. el type.Value (el e.type e.inside)) (component_spelled _)
+    (component_short c.in_ok-kind.ensures c.in_err-text.ensures))
 
 pub returns : goal.returns
 returns c =
-    leaf_wrote (component_taken c.in_ok-kind.ensures c.in_ok-text.ensures) (λ e. el type.Value (el e.type e.inside)) (component_spelled _) c.behind.ensures c.put_component-size.ensures
+    leaf_wrote (component_taken c.in_ok-kind.ensures c.in_ok-text.ensures) (λ e. el type.Value (el e.type e.inside))
+    (component_spelled _) c.behind.ensures c.put_component-size.ensures

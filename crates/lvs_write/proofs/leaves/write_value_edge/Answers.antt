@@ -9,12 +9,15 @@ returns-in_err-to c =
 
 pub returns-in_err-kind : goal.returns-in_err-kind
 returns-in_err-kind c =
-    rw c.from_residual-in_err-kind.ensures (leaf_missed value_edge_bytes value_edge_spelled (edge_bare c.in_ok-to.ensures (component_untyped c.in_err-kind.ensures)))
+    rw c.from_residual-in_err-kind.ensures (leaf_missed value_edge_bytes value_edge_spelled (edge_bare c.in_ok-to.ensures
+    (component_untyped c.in_err-kind.ensures)))
 
 pub returns-in_err-text : goal.returns-in_err-text
 returns-in_err-text c =
-    rw c.from_residual-in_err-text.ensures (leaf_missed value_edge_bytes value_edge_spelled (edge_bare c.in_ok-to.ensures (component_short c.in_ok-kind.ensures c.in_err-text.ensures)))
+    rw c.from_residual-in_err-text.ensures (leaf_missed value_edge_bytes value_edge_spelled (edge_bare c.in_ok-to.ensures
+    (component_short c.in_ok-kind.ensures c.in_err-text.ensures)))
 
 pub returns : goal.returns
 returns c =
-    leaf_wrote (value_edge_taken c.in_ok-to.ensures (component_taken c.in_ok-kind.ensures c.in_ok-text.ensures)) value_edge_bytes value_edge_spelled c.behind.ensures c.put_value_edge-size.ensures
+    leaf_wrote (value_edge_taken c.in_ok-to.ensures
+    (component_taken c.in_ok-kind.ensures c.in_ok-text.ensures)) value_edge_bytes value_edge_spelled c.behind.ensures c.put_value_edge-size.ensures

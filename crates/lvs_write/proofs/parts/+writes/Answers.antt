@@ -64,14 +64,19 @@ write_nested-element_size-size-requires t c = omega (arith, c.cap-n.ensures, cap
 
 pub write_nested-returns-then-not-has_room : goal.write_nested-returns-then-not-has_room
 write_nested-returns-then-not-has_room t c =
-    wrote_as (parts.nested_as _ c.typ-typ.ensures) (nested_no_room c.in_ok-inside.ensures _ c.cap-n.ensures c.element_size-size.ensures c.add-at.ensures (sym c.has_room.ensures ∙ c.if-not-has_room.true))
+    wrote_as (parts.nested_as _ c.typ-typ.ensures)
+    (nested_no_room c.in_ok-inside.ensures _ c.cap-n.ensures c.element_size-size.ensures c.add-at.ensures
+    (sym c.has_room.ensures ∙ c.if-not-has_room.true))
 
 pub write_nested-put_header-start-requires : goal.write_nested-put_header-start-requires
 write_nested-put_header-start-requires t c = header_fits _ _ _ c.element_size-size.ensures _ c.has_room.ensures c.if-not-has_room.false
 
 pub write_nested-returns-then-n-le-SHORT : goal.write_nested-returns-then-n-le-SHORT
 write_nested-returns-then-n-le-SHORT t c =
-    wrote_as (parts.nested_as _ c.typ-typ.ensures) (nested_early c.in_ok-inside.ensures _ c.cap-n.ensures c.element_size-size.ensures c.add-at.ensures (sym c.has_room.ensures ∙ c.if-not-has_room.false) (parts.type_short c.args.container c.typ-typ.ensures) c.if-n-le-SHORT.true c.put_header-start.ensures)
+    wrote_as (parts.nested_as _ c.typ-typ.ensures)
+    (nested_early c.in_ok-inside.ensures _ c.cap-n.ensures c.element_size-size.ensures c.add-at.ensures
+    (sym c.has_room.ensures ∙ c.if-not-has_room.false)
+    (parts.type_short c.args.container c.typ-typ.ensures) c.if-n-le-SHORT.true c.put_header-start.ensures)
 
 pub write_nested-overflow_add-end : goal.write_nested-overflow_add-end
 write_nested-overflow_add-end t c =
@@ -83,7 +88,9 @@ write_nested-slice_bounds-write_inside-end t c =
 
 pub write_nested-returns : goal.write_nested-returns
 write_nested-returns t c =
-    wrote_as (parts.nested_as _ c.typ-typ.ensures) (nested_again c.in_ok-inside.ensures _ c.cap-n.ensures c.element_size-size.ensures c.add-at.ensures (sym c.has_room.ensures ∙ c.if-not-has_room.false) c.if-n-le-SHORT.false c.put_header-start.ensures refl c.write_inside.ensures)
+    wrote_as (parts.nested_as _ c.typ-typ.ensures)
+    (nested_again c.in_ok-inside.ensures _ c.cap-n.ensures c.element_size-size.ensures c.add-at.ensures
+    (sym c.has_room.ensures ∙ c.if-not-has_room.false) c.if-n-le-SHORT.false c.put_header-start.ensures refl c.write_inside.ensures)
 
 pub write_node-returns-in_err-id : goal.write_node-returns-in_err-id
 write_node-returns-in_err-id t c = rw c.from_residual.ensures (wrote_as parts.node_parts (stop_wrote _ c.in_err-id.ensures))
@@ -94,19 +101,25 @@ write_node-returns-in_err-parent t c =
 
 pub write_node-returns-in_err-names : goal.write_node-returns-in_err-names
 write_node-returns-in_err-names t c =
-    rw c.from_residual-in_err-names.ensures (wrote_as parts.node_parts (then_wrote c.in_ok-id.ensures (then_wrote c.in_ok-parent.ensures (stop_wrote _ c.in_err-names.ensures) (search rules)) (search rules)))
+    rw c.from_residual-in_err-names.ensures (wrote_as parts.node_parts (then_wrote c.in_ok-id.ensures (then_wrote c.in_ok-parent.ensures
+    (stop_wrote _ c.in_err-names.ensures) (search rules)) (search rules)))
 
 pub write_node-returns-in_err-values : goal.write_node-returns-in_err-values
 write_node-returns-in_err-values t c =
-    rw c.from_residual-in_err-values.ensures (wrote_as parts.node_parts (then_wrote c.in_ok-id.ensures (then_wrote c.in_ok-parent.ensures (then_wrote c.in_ok-names.ensures (stop_wrote _ c.in_err-values.ensures) (search rules)) (search rules)) (search rules)))
+    rw c.from_residual-in_err-values.ensures (wrote_as parts.node_parts (then_wrote c.in_ok-id.ensures (then_wrote c.in_ok-parent.ensures
+    (then_wrote c.in_ok-names.ensures (stop_wrote _ c.in_err-values.ensures) (search rules)) (search rules)) (search rules)))
 
 pub write_node-returns-in_err-patterns : goal.write_node-returns-in_err-patterns
 write_node-returns-in_err-patterns t c =
-    rw c.from_residual-in_err-patterns.ensures (wrote_as parts.node_parts (then_wrote c.in_ok-id.ensures (then_wrote c.in_ok-parent.ensures (then_wrote c.in_ok-names.ensures (then_wrote c.in_ok-values.ensures (stop_wrote _ c.in_err-patterns.ensures) (search rules)) (search rules)) (search rules)) (search rules)))
+    rw c.from_residual-in_err-patterns.ensures (wrote_as parts.node_parts (then_wrote c.in_ok-id.ensures (then_wrote c.in_ok-parent.ensures
+    (then_wrote c.in_ok-names.ensures (then_wrote c.in_ok-values.ensures (stop_wrote _ c.in_err-patterns.ensures) (search rules)) (search rules))
+    (search rules)) (search rules)))
 
 pub write_node-returns : goal.write_node-returns
 write_node-returns t c =
-    wrote_as parts.node_parts (then_wrote c.in_ok-id.ensures (then_wrote c.in_ok-parent.ensures (then_wrote c.in_ok-names.ensures (then_wrote c.in_ok-values.ensures (then_wrote c.in_ok-patterns.ensures c.write_many-4.ensures (search rules)) (search rules)) (search rules)) (search rules)) (search rules))
+    wrote_as parts.node_parts (then_wrote c.in_ok-id.ensures (then_wrote c.in_ok-parent.ensures (then_wrote c.in_ok-names.ensures
+    (then_wrote c.in_ok-values.ensures (then_wrote c.in_ok-patterns.ensures c.write_many-4.ensures (search rules)) (search rules)) (search rules))
+    (search rules)) (search rules))
 
 pub write_part-returns-in-RuleName : goal.write_part-returns-in-RuleName
 write_part-returns-in-RuleName t c = parts.by_part c.in-RuleName.is parts.rule_name_written c.write_text.ensures
