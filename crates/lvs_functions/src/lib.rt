@@ -5,31 +5,28 @@ ghost use Rattle.std.specs.Prelude.{◌≡◌};
 ghost use Rattle.lvs_spec.specs.Verdict.{function_of};
 ghost use Rattle.lvs_functions.specs.Functions.{function_read};
 
-// The four known functions, or another name.
-#[derive(Clone, Copy)]
+/// The four known functions.
+#[derive(Clone, Copy, Debug, PartialEq, Eq)]
 pub enum Function {
     Eq,
     EqType,
     IsValidId,
     IsValidYear,
-    Unknown,
 }
 
-// The function that a FnId names, compared byte for byte.
-pub fn function_of(s: &[u8]) -> Function
+/// The function that a FnId names, compared byte for byte.
+pub fn function_of(s: &[u8]) -> Option<Function>
     ensures { result ≡ function_read (function_of s.now) }
 {
-    if tlv::same_bytes(s, b"$eq") {
-        return Function::Eq;
+    if s == b"$eq".as_slice() {
+        Some(Function::Eq)
+    } else if s == b"$eq_type".as_slice() {
+        Some(Function::EqType)
+    } else if s == b"$isValidID".as_slice() {
+        Some(Function::IsValidId)
+    } else if s == b"$isValidYear".as_slice() {
+        Some(Function::IsValidYear)
+    } else {
+        None
     }
-    if tlv::same_bytes(s, b"$eq_type") {
-        return Function::EqType;
-    }
-    if tlv::same_bytes(s, b"$isValidID") {
-        return Function::IsValidId;
-    }
-    if tlv::same_bytes(s, b"$isValidYear") {
-        return Function::IsValidYear;
-    }
-    Function::Unknown
 }

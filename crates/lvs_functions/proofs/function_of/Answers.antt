@@ -1,26 +1,27 @@
--- `lvs_functions::function_of` meets its contract: each comparison is a step of `function_in`. Assumes nothing.
-use Rattle.std.proofs.Common.{sym, ◌∙◌}
-use Rattle.lvs_functions.proofs.Functions.{is_eq, is_eq_type, is_id, is_year, is_unknown}
+-- `lvs_functions::function_of` meets its contract: each answer from the comparisons that led to it. Assumes nothing.
+use Rattle.lvs_functions.proofs.Functions.{compared, is_eq, is_eq_type, is_id, is_year, is_none_of_them}
 use Rattle.lvs_functions.proofs.function_of.Goals as goal
 
-pub returns-then-same_bytes : goal.returns-then-same_bytes
-returns-then-same_bytes c = is_eq _ (sym c.same_bytes.ensures ∙ c.if-same_bytes.true)
+pub returns-then-eq : goal.returns-then-eq
+returns-then-eq c = is_eq _ (compared _ _ _ c.eq.ensures c.as_slice.ensures c.if-eq.true)
 
-pub returns-then-same_bytes-2 : goal.returns-then-same_bytes-2
-returns-then-same_bytes-2 c =
-    is_eq_type _ (sym c.same_bytes.ensures ∙ c.if-same_bytes.false) (sym c.same_bytes-2.ensures ∙ c.if-same_bytes-2.true)
+pub returns-then-eq-2 : goal.returns-then-eq-2
+returns-then-eq-2 c =
+    is_eq_type _ (compared _ _ _ c.eq.ensures c.as_slice.ensures c.if-eq.false) (compared _ _ _ c.eq-else-eq.ensures c.as_slice-else-eq.ensures c.if-eq-2.true)
 
-pub returns-then-same_bytes-3 : goal.returns-then-same_bytes-3
-returns-then-same_bytes-3 c =
-    is_id _ (sym c.same_bytes.ensures ∙ c.if-same_bytes.false) (sym c.same_bytes-2.ensures ∙ c.if-same_bytes-2.false)
-    (sym c.same_bytes-3.ensures ∙ c.if-same_bytes-3.true)
+pub returns-then-eq-3 : goal.returns-then-eq-3
+returns-then-eq-3 c =
+    is_id _ (compared _ _ _ c.eq.ensures c.as_slice.ensures c.if-eq.false) (compared _ _ _ c.eq-else-eq.ensures c.as_slice-else-eq.ensures c.if-eq-2.false)
+    (compared _ _ _ c.eq-else-eq-2.ensures c.as_slice-else-eq-2.ensures c.if-eq-3.true)
 
-pub returns-then-same_bytes-4 : goal.returns-then-same_bytes-4
-returns-then-same_bytes-4 c =
-    is_year _ (sym c.same_bytes.ensures ∙ c.if-same_bytes.false) (sym c.same_bytes-2.ensures ∙ c.if-same_bytes-2.false)
-    (sym c.same_bytes-3.ensures ∙ c.if-same_bytes-3.false) (sym c.same_bytes-4.ensures ∙ c.if-same_bytes-4.true)
+pub returns-then-eq-4 : goal.returns-then-eq-4
+returns-then-eq-4 c =
+    is_year _ (compared _ _ _ c.eq.ensures c.as_slice.ensures c.if-eq.false) (compared _ _ _ c.eq-else-eq.ensures c.as_slice-else-eq.ensures c.if-eq-2.false)
+    (compared _ _ _ c.eq-else-eq-2.ensures c.as_slice-else-eq-2.ensures c.if-eq-3.false)
+    (compared _ _ _ c.eq-else-eq-3.ensures c.as_slice-else-eq-3.ensures c.if-eq-4.true)
 
-pub returns : goal.returns
-returns c =
-    is_unknown _ (sym c.same_bytes.ensures ∙ c.if-same_bytes.false) (sym c.same_bytes-2.ensures ∙ c.if-same_bytes-2.false)
-    (sym c.same_bytes-3.ensures ∙ c.if-same_bytes-3.false) (sym c.same_bytes-4.ensures ∙ c.if-same_bytes-4.false)
+pub returns-else-eq-4 : goal.returns-else-eq-4
+returns-else-eq-4 c =
+    is_none_of_them _ (compared _ _ _ c.eq.ensures c.as_slice.ensures c.if-eq.false) (compared _ _ _ c.eq-else-eq.ensures c.as_slice-else-eq.ensures c.if-eq-2.false)
+    (compared _ _ _ c.eq-else-eq-2.ensures c.as_slice-else-eq-2.ensures c.if-eq-3.false)
+    (compared _ _ _ c.eq-else-eq-3.ensures c.as_slice-else-eq-3.ensures c.if-eq-4.false)
