@@ -4,17 +4,17 @@ use mathlib.Core.Path.{◌≡◌, refl, sym, ap, subst, ◌∙◌}
 use mathlib.Core.Bool.{Bool, true, false, cond, ◌&&◌}
 use mathlib.Core.List.{List, [], ◌∷◌}
 use mathlib.Core.Option.{some}
-use native.Mathlib.Numerals.{add-one}
 use native.Mathlib.Omega.{arith}
 use borrow.Author.Tests.{eqb-true, eqb-false, eq-eqb, ne_eqb}
 use lib.Dec.{leb, eqb}
-use lib.ListN.{length, get_or, take, drop, length-drop, drop_of_length-le}
-use lib.Seq.{drop-cons, take_all}
+use lib.ListN.{length, get_or, take, drop, length-drop}
+use lib.Seq.{take_all}
+use Rattle.std.specs.Prelude.{is_some}
+use Rattle.std.specs.List.{list_all}
 use Rattle.tlv.specs.Number.{integer_size, integer}
 use Rattle.tlv.specs.Element.{Element, First, end, malformed, first, element}
 use Rattle.tlv.specs.Answers.{read_at, read_from, integer_of}
-use Rattle.tlv.specs.declared.IntegerRead.{IntegerRead}
-use Rattle.tlv.specs.declared.IntegerRead.TheVariants.{Integer, OtherSize}
+use Rattle.tlv.specs.declared.Place.{Place}
 use Rattle.tlv.specs.declared.Read.{Read}
 use Rattle.tlv.specs.declared.Read.TheVariants.{Found, End, Malformed}
 use Rattle.tlv.proofs.Cuts.{Whole, element_whole}
@@ -25,21 +25,14 @@ use Rattle.lvs_spec.specs.Leaves.{is_component, letter, letter_or_digit, identif
 
 -- ---- integers
 
-abbrev Sized : List ℕ → IntegerRead → Type 0
-Sized s (Integer n) = true ≡ integer_size (length s)
-Sized s OtherSize = false ≡ integer_size (length s)
-
-sized_of : (s : List ℕ) → Sized s (integer_of s)
+-- an integer is read off just the sizes that are right
+pub sized : (s : List ℕ) → is_some (integer_of s) ≡ integer_size (length s)
 unfolding integer_of integer
-sized_of s = go (integer_size (length s)) refl
+sized s = go (integer_size (length s)) refl
   where
-    go : (b : Bool) → integer_size (length s) ≡ b → Sized s (integer_of s)
-    go true e = rw (e, integer_of, integer) (sym e)
-    go false e = rw (e, integer_of, integer) (sym e)
-
--- r is what the reader answered, and a is the answer that the match found it to be
-pub sized : (s : List ℕ) {r a : IntegerRead} → r ≡ integer_of s → r ≡ a → Sized s a
-sized s e f = subst (Sized s) (sym e ∙ f) (sized_of s)
+    go : (b : Bool) → integer_size (length s) ≡ b → is_some (integer_of s) ≡ integer_size (length s)
+    go true e = rw (e, integer_of, integer)
+    go false e = rw (e, integer_of, integer)
 
 -- ---- one component
 
@@ -82,52 +75,47 @@ valued_at s start = go (element s) refl
         rw (p, behind s h e rest (element_whole s h e rest p), past)
         (test (leb e.type max_component_type) (eqb (0 + h + length e.inside) (length s)) (0 + h + length e.inside))
 
-pub valued : (s : List ℕ) (start : ℕ) {r a : Read} → r ≡ read_at s 0 → r ≡ a → Valued s start a
-valued s start e f = subst (Valued s start) (sym e ∙ f) (valued_at s start)
+module _ (s : List ℕ) (start : ℕ) {r : Read} (e : r ≡ read_at s 0) where
+  valued : {a : Read} → r ≡ a → Valued s start a
+  valued f = subst (Valued s start) (sym e ∙ f) (valued_at s start)
 
--- ---- bytes in a row
+  pub valued_found : {t a z : ℕ} {n : Place} → r ≡ Found t a z n
+      → from start (value_fault (element s)) ≡ cond (leb t max_component_type) (must (eqb z (length s)) (start + z)) (some start)
+  valued_found f = valued f
 
-module _ (P : ℕ → Bool) (s : List ℕ) (i : ℕ) where
-  all_at : i < length s → all P (drop i s) ≡ (P (get_or s i 0) && all P (drop (i + 1) s))
-  all_at h = rw (add-one, drop-cons s i 0 h)
-
-  pub all_stops : {t : Bool} → i < length s → t ≡ P (get_or s i 0) → t ≡ false → all P (drop i s) ≡ false
-  all_stops h e f = all_at h ∙ rw (sym e ∙ f)
-
-  pub all_goes_on : {t : Bool} → i < length s → t ≡ P (get_or s i 0) → t ≡ true → all P (drop i s) ≡ all P (drop (i + 1) s)
-  all_goes_on h e f = all_at h ∙ rw (sym e ∙ f)
-
-  pub all_ends : length s ≤ i → all P (drop i s) ≡ true
-  all_ends h = rw (drop_of_length-le s h)
+  pub valued_else : ((t a z : ℕ) (n : Place) → r ≡ Found t a z n → ⊥) → from start (value_fault (element s)) ≡ some start
+  valued_else other = go r refl
+    where
+      go : (a : Read) → r ≡ a → from start (value_fault (element s)) ≡ some start
+      go (Found t a z n) f = absurd (other t a z n f)
+      go End f = valued f
+      go Malformed f = valued f
 
 -- ---- identifiers
 
-pub identifier_empty : (s : List ℕ) → length s ≡ 0 → identifier s ≡ false
+listed : (test : ℕ → Bool) (s : List ℕ) → list_all test s ≡ all test s
+listed test [] = refl
+listed test (x ∷ s) = ap (λ (b : Bool). test x && b) (listed test s)
+
+pub identifier_empty : (s : List ℕ) → length s < 1 → identifier s ≡ false
 unfolding identifier
 identifier_empty [] h = refl
 identifier_empty (x ∷ xs) h = absurd (omega arith)
 
-pub identifier_first : (s : List ℕ) {t : Bool} → (length s ≡ 0 → ⊥) → t ≡ letter (get_or s 0 0) → t ≡ false → identifier s ≡ false
+-- the first byte, and what an iterator over the others has tested
+pub identifier_some : (s : List ℕ) → 1 ≤ length s
+    → identifier s ≡ (letter (get_or s 0 0) && list_all letter_or_digit (take (length s - 1) (drop 1 s)))
 unfolding identifier
-identifier_first [] n e f = absurd (n refl)
-identifier_first (x ∷ xs) n e f = rw (sym e ∙ f)
+identifier_some [] h = absurd (omega arith)
+identifier_some (x ∷ xs) h =
+    ap (λ (b : Bool). letter x && b) (sym (listed letter_or_digit xs) ∙ ap (list_all letter_or_digit) (sym (take_all (length (x ∷ xs) - 1) xs (omega arith))))
 
-pub identifier_rest : (s : List ℕ) {t : Bool} → (length s ≡ 0 → ⊥) → t ≡ letter (get_or s 0 0) → t ≡ true → identifier s ≡ all letter_or_digit (drop 1 s)
-unfolding identifier
-identifier_rest [] n e f = absurd (n refl)
-identifier_rest (x ∷ xs) n e f = rw (sym e ∙ f)
-
-pub marked_empty : (m : ℕ) (s : List ℕ) → length s ≡ 0 → marked m s ≡ false
+pub marked_empty : (m : ℕ) (s : List ℕ) → length s < 1 → marked m s ≡ false
 unfolding marked
 marked_empty m [] h = refl
 marked_empty m (x ∷ xs) h = absurd (omega arith)
 
-pub marked_other : (m : ℕ) (s : List ℕ) → (length s ≡ 0 → ⊥) → (get_or s 0 0 ≡ m → ⊥) → marked m s ≡ false
+pub marked_some : (m : ℕ) (s : List ℕ) → 1 ≤ length s → marked m s ≡ (eqb (get_or s 0 0) m && identifier (take (length s - 1) (drop 1 s)))
 unfolding marked
-marked_other m [] n h = absurd (n refl)
-marked_other m (x ∷ xs) n h = rw (ne_eqb x m h)
-
-pub marked_rest : (m : ℕ) (s : List ℕ) → (length s ≡ 0 → ⊥) → get_or s 0 0 ≡ m → marked m s ≡ identifier (take (length s - 1) (drop 1 s))
-unfolding marked
-marked_rest m [] n h = absurd (n refl)
-marked_rest m (x ∷ xs) n h = rw (eq-eqb x m h, take_all (length (x ∷ xs) - 1) xs (omega arith))
+marked_some m [] h = absurd (omega arith)
+marked_some m (x ∷ xs) h = ap (λ (b : Bool). eqb x m && b) (ap identifier (sym (take_all (length (x ∷ xs) - 1) xs (omega arith))))

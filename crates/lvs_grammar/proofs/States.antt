@@ -14,9 +14,11 @@ use lib.Seq.{drop-drop}
 use Rattle.tlv.specs.Lists.{member, guard}
 use Rattle.lvs_spec.specs.Grammar.{Kind, Item, once, maybe, many, order, step, final}
 use Rattle.lvs_spec.proofs.Grammar.{both}
-use Rattle.lvs_grammar.specs.declared.order.Next.{Next}
-use Rattle.lvs_grammar.specs.declared.order.Next.TheVariants.{Refused, State}
+use Rattle.std.specs.Prelude.{Option as Answer, Some, None}
+use Rattle.lvs_grammar.specs.declared.types.Kind as kinds
+use Rattle.lvs_grammar.specs.Types.{kind_of}
 use Rattle.lvs_grammar.specs.States.{left_behind, Slotted, slotted}
+use Rattle.lvs_grammar.proofs.Apart.{Apart, types_in, refused}
 
 -- ---- a test at each number below n
 
@@ -127,7 +129,7 @@ slot_behind : (k : Kind) (t lo hi next q : ℕ) → hi < q → length (order k) 
 unfolding slotted step
 slot_behind k t lo hi next q h l = rw (drop_of_length-le (order k) l, lt-leb q hi h) (go (leb lo q))
   where
-    go : (b : Bool) → left_behind k (cond (b && false) (State next) Refused) ≡ none
+    go : (b : Bool) → left_behind k (cond (b && false) (Some next) None) ≡ none
     go true = refl
     go false = refl
 
@@ -145,7 +147,7 @@ slot_any k t lo hi next q h = go (ltb q (length (order k))) refl
         slot_behind k t lo hi next q (omega arith) l
 
 -- the law of a slot
-pub slot_step : (k : Kind) {t lo hi next q typ : ℕ} {r : Next} → typ ≡ t → Slotted q lo hi next r → fits (order k) t lo hi next ≡ true
+pub slot_step : (k : Kind) {t lo hi next q typ : ℕ} {r : Answer ℕ} → typ ≡ t → Slotted q lo hi next r → fits (order k) t lo hi next ≡ true
     → left_behind k r ≡ step (drop q (order k)) typ
 slot_step k {t} {lo} {hi} {next} {q} e f h = rw (e, f.is) (slot_any k t lo hi next q h)
 
@@ -181,3 +183,16 @@ end_final k n q h = go (ltb q (length (order k))) refl
         let l : length (order k) ≤ q = ltb-false _ _ e in
         let b : n ≤ length (order k) = leb-true _ _ f.0 in
         rw (drop_of_length-le (order k) l, le-leb n q (omega arith))
+
+-- ---- the same, for a kind that a match has found
+
+module _ {kind k : kinds.Kind} (e : kind ≡ k) where
+  pub slot_in : {t lo hi next q typ : ℕ} {r : Answer ℕ} → typ ≡ t → Slotted q lo hi next r → fits (order (kind_of k)) t lo hi next ≡ true
+      → left_behind (kind_of kind) r ≡ step (drop q (order (kind_of kind))) typ
+  slot_in f s h = rw e (slot_step (kind_of k) f s h)
+
+  pub refused_in : (q t : ℕ) → Apart (Unit {0}) (types_in (order (kind_of k))) t → none ≡ step (drop q (order (kind_of kind))) t
+  refused_in q t h = rw e (refused (kind_of k) q t h)
+
+  pub end_in : (n q : ℕ) → ends (order (kind_of k)) n ≡ true → leb n q ≡ final (drop q (order (kind_of kind)))
+  end_in n q h = rw e (end_final (kind_of k) n q h)

@@ -1,18 +1,19 @@
 -- One turn of each reading loop: what stands at a place, and what the answer from there on is. Assumes nothing.
 use Prim.Native.Nat.{ℕ, zero, suc, ◌+◌, ◌-◌, ◌≤◌}
 use mathlib.Core.Path.{◌≡◌, refl, sym, ap, ◌∙◌}
-use mathlib.Core.Bool.{Bool, true, false, false≢true}
-use mathlib.Core.List.{List}
+use mathlib.Core.Bool.{Bool, true, false, cond, false≢true}
+use mathlib.Core.List.{List, [], ◌∷◌}
 use mathlib.Core.Option.{Option, none, some}
 use native.Mathlib.Omega.{arith}
 use lib.ListN.{length, take, drop, length-drop}
 use lib.Seq.{length-take-le}
-use Rattle.tlv.specs.Element.{Element, Cuts, next, cuts}
+use Rattle.tlv.specs.Element.{Element, Cuts, done, broken, next, cuts}
+use Rattle.tlv.specs.Fields.{each_cut, elements}
 use Rattle.tlv.specs.Answers.{read_at}
 use Rattle.tlv.specs.declared.Place.{Place}
 use Rattle.tlv.specs.declared.Read.{Read}
 use Rattle.tlv.specs.declared.Read.TheVariants.{Found, End, Malformed}
-use Rattle.tlv.proofs.Cuts.{seen, first_seen}
+use Rattle.tlv.proofs.Cuts.{first_seen}
 use Rattle.tlv.specs.Lists.{is}
 use Rattle.lvs_spec.specs.Grammar as grammar
 use Rattle.lvs_spec.specs.Grammar.{Kind, meaning, order, step, final}
@@ -20,8 +21,9 @@ use Rattle.lvs_spec.specs.WellFormed.{first_known, is_other_version, other_versi
 use Rattle.lvs_spec.specs.Places.{must, from, Placed, item, placed, leaf_fault, inside_fault, fault_from, fault_by}
 use Rattle.lvs_spec.proofs.Places.{placed_end, placed_malformed, placed_next, fault_optional, fault_critical, fault_known, fault_known_lem}
 use Rattle.lvs_spec.proofs.Version.{first_optional, first_critical, first_known_lem}
-use Rattle.lvs_grammar.specs.declared.order.Next.{Next}
-use Rattle.lvs_grammar.specs.declared.order.Next.TheVariants.{Refused, State}
+use Rattle.std.specs.Prelude.{Option as Answer, Some, None, Result, Ok, Err}
+use Rattle.lvs_grammar.specs.declared.faults.Fault.{Fault}
+use Rattle.lvs_grammar.specs.Faults.{fault_of}
 use Rattle.lvs_grammar.specs.declared.types.Kind as kinds
 use Rattle.lvs_grammar.specs.declared.types.Leaf.{Leaf}
 use Rattle.lvs_grammar.specs.declared.types.Known as knowns
@@ -82,19 +84,19 @@ module _ (n : ℕ) (k : Kind) (q : ℕ) (s : List ℕ) (at : ℕ) {r : Read} (e 
     pub fault_at_critical : m ≡ Critical → fault_after n k q s at ≡ some at
     fault_at_critical h = cut ∙ fault_critical (fault_by n) k (drop q (order k)) at a (part s t a b) rest (sym g ∙ ap meaning_of h)
 
-    module _ {w : knowns.Known} (h : m ≡ Known w) (x : Next) (i : left_behind k x ≡ step (drop q (order k)) t) where
+    module _ {w : knowns.Known} (h : m ≡ Known w) (x : Answer ℕ) (i : left_behind k x ≡ step (drop q (order k)) t) where
       known : fault_after n k q s at ≡ fault_known (fault_by n) k (known_of w) at a (part s t a b) rest (left_behind k x)
       known =
           cut
           ∙ fault_known_lem (fault_by n) k (drop q (order k)) at a (part s t a b) rest (known_of w) (sym g ∙ ap meaning_of h)
           ∙ ap (fault_known (fault_by n) k (known_of w) at a (part s t a b) rest) (sym i)
 
-      pub fault_refused : x ≡ Refused → fault_after n k q s at ≡ some at
+      pub fault_refused : x ≡ None → fault_after n k q s at ≡ some at
       unfolding fault_known
       fault_refused j = known ∙ rw j
 
       -- what it holds has a fault, or has none
-      module _ {q' : ℕ} (j : x ≡ State q') {o : Option ℕ} (l : o ≡ inside_fault (fault_by n) k (known_of w) at a (take (b - a) (drop a s))) where
+      module _ {q' : ℕ} (j : x ≡ Some q') {o : Option ℕ} (l : o ≡ inside_fault (fault_by n) k (known_of w) at a (take (b - a) (drop a s))) where
         inside_fault_lem : {z : ℕ} → o ≡ some z → fault_after n k q s at ≡ some z
         unfolding fault_known
         inside_fault_lem v = known ∙ rw (j, fault_known, sym l ∙ v)
@@ -103,7 +105,7 @@ module _ (n : ℕ) (k : Kind) (q : ℕ) (s : List ℕ) (at : ℕ) {r : Read} (e 
         unfolding fault_known fault_after
         inside_on v = known ∙ rw (j, fault_known, sym l ∙ v)
 
-      module _ {q' : ℕ} (j : x ≡ State q') {y : Leaf} (u : w ≡ Plain y) {o : Option ℕ} (l : o ≡ leaf_fault k (leaf_of y) at a (take (b - a) (drop a s))) where
+      module _ {q' : ℕ} (j : x ≡ Some q') {y : Leaf} (u : w ≡ Plain y) {o : Option ℕ} (l : o ≡ leaf_fault k (leaf_of y) at a (take (b - a) (drop a s))) where
         held : o ≡ inside_fault (fault_by n) k (known_of w) at a (take (b - a) (drop a s))
         unfolding inside_fault
         held = rw u l
@@ -114,7 +116,7 @@ module _ (n : ℕ) (k : Kind) (q : ℕ) (s : List ℕ) (at : ℕ) {r : Read} (e 
         pub plain_on : o ≡ none → fault_after n k q s at ≡ fault_after n k q' s p.at
         plain_on v = inside_on j held v
 
-      module _ {q' : ℕ} (j : x ≡ State q') {y : kinds.Kind} (u : w ≡ Container y) {o : Option ℕ}
+      module _ {q' : ℕ} (j : x ≡ Some q') {y : kinds.Kind} (u : w ≡ Container y) {o : Option ℕ}
           (l : o ≡ fault_by n (kind_of y) (take (b - a) (drop a s))) where
         entered : from a o ≡ inside_fault (fault_by n) k (known_of w) at a (take (b - a) (drop a s))
         unfolding inside_fault
@@ -125,6 +127,11 @@ module _ (n : ℕ) (k : Kind) (q : ℕ) (s : List ℕ) (at : ℕ) {r : Read} (e 
 
         pub container_on : o ≡ none → fault_after n k q s at ≡ fault_after n k q' s p.at
         container_on v = inside_on j entered (ap (from a) v)
+
+-- what is no fault is none
+pub no_fault : (r : Result (Unit {0}) Fault) → ((x : Fault) → r ≡ Err x → ⊥) → fault_of r ≡ none
+no_fault (Ok u) other = refl
+no_fault (Err x) other = absurd (other x refl)
 
 -- a part of what is short is short
 pub part_short : (s : List ℕ) (a b most : ℕ) → a ≤ b → b ≤ length s → length s ≤ most → a + length (take (b - a) (drop a s)) ≤ most
@@ -148,28 +155,39 @@ first_is e c h = go (meaning e.type) refl
     go grammar.critical q = first_critical e c q
     go (grammar.known w) q = first_known_lem e c w q
 
--- the answer from a place on
-unfoldable pub other_from : List ℕ → ℕ → Bool
-other_from s at = is is_other_version (first_known (cuts (drop at s)))
+-- the first of these that is not optional
+unfoldable pub first_of : List Element → Option Element
+first_of [] = none
+first_of (e ∷ es) = cond (is_optional (meaning e.type)) (first_of es) (some e)
 
-pub other_start : (s : List ℕ) → other_version s ≡ other_from s 0
-unfolding other_version other_from
-other_start s = refl
+first_listed : (c : Cuts) → first_of (each_cut (λ e. e ∷ []) c) ≡ first_known c
+unfolding first_of each_cut first_known
+first_listed done = refl
+first_listed broken = refl
+first_listed (next e c) = go (is_optional (meaning e.type)) refl (first_listed c)
+  where
+    go : (t : Bool) → is_optional (meaning e.type) ≡ t → first_of (each_cut (λ e. e ∷ []) c) ≡ first_known c
+        → first_of (e ∷ each_cut (λ e. e ∷ []) c) ≡ first_known (next e c)
+    go true q r = rw q (r ∙ sym (first_skips e c q))
+    go false q r = rw q (sym (first_is e c q))
 
-module _ (s : List ℕ) (at : ℕ) {r : Read} (e : r ≡ read_at s at) where
-  pub other_end : r ≡ End → other_from s at ≡ false
-  unfolding other_from first_known
-  other_end f = rw (seen s at e f)
+-- the answer by elements that are left
+unfoldable pub other_among : List Element → Bool
+other_among es = is is_other_version (first_of es)
 
-  pub other_broken : r ≡ Malformed → other_from s at ≡ false
-  unfolding other_from first_known
-  other_broken f = rw (seen s at e f)
+pub other_all : (b : List ℕ) → other_among (elements b) ≡ other_version b
+unfolding other_among other_version elements
+other_all b = ap (is is_other_version) (first_listed (cuts b))
 
-  module _ {t a b : ℕ} {p : Place} (f : r ≡ Found t a b p) {o : Bool} (g : o ≡ is_optional (meaning t)) where
-    pub other_skips : o ≡ true → other_from s at ≡ other_from s p.at
-    unfolding other_from
-    other_skips h = rw ((seen s at e f).cut_is, first_skips (part s t a b) (cuts (drop p.at s)) (sym g ∙ h))
+pub other_none : other_among [] ≡ false
+unfolding other_among first_of
+other_none = refl
 
-    pub other_first : o ≡ false → other_from s at ≡ is_other_version (part s t a b)
-    unfolding other_from
-    other_first h = rw ((seen s at e f).cut_is, first_is (part s t a b) (cuts (drop p.at s)) (sym g ∙ h))
+module _ (e : Element) (es : List Element) where
+  pub other_skips : is_optional (meaning e.type) ≡ true → other_among (e ∷ es) ≡ other_among es
+  unfolding other_among first_of
+  other_skips q = rw q
+
+  pub other_first : is_optional (meaning e.type) ≡ false → other_among (e ∷ es) ≡ is_other_version e
+  unfolding other_among first_of
+  other_first q = rw q

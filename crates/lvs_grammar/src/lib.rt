@@ -8,11 +8,14 @@ mod types;
 
 ghost use Rattle.std.specs.Prelude.{◌≡◌};
 ghost use Rattle.lvs_spec.specs.WellFormed.{is_other_version, other_version};
+ghost use Rattle.tlv.specs.Answers.{element_of};
 ghost use Rattle.lvs_grammar.specs.Answers.{reading_of};
 
-use faults::{Fault, fault_in};
+use faults::fault_in;
 use lvs_spec::MAX_MODEL_BYTES;
-use tlv::{Place, Read};
+use lvs_spec::refusal::Refusal;
+use lvs_spec::types::VERSION;
+use tlv::{Element, Elements};
 use types::{Kind, is_optional};
 
 // The only version that is read: 0x00011000.
@@ -20,28 +23,20 @@ const THIS_VERSION: [u8; 4] = [0x00, 0x01, 0x10, 0x00];
 // Model, Node, PatternEdge, Constraint, ConstraintOption, UserFnCall, UserFnArg: no deeper.
 const DEPTH: u8 = 7;
 
-// What the bytes of a model come to before rule 4. If they are malformed, the place of the first fault.
-#[derive(Clone, Copy)]
-pub enum Reading {
-    TooLong,
-    OtherVersion,
-    Malformed(u32),
-    Readable,
-}
-
-// Each test covers the whole model before the next begins, save that another version outranks any fault after Version.
-pub fn check_grammar(model: &[u8]) -> Reading
+/// Whether the bytes are a model that can be read; a malformed one has the place of its first fault. Each test covers the whole model before the
+/// next begins, save that another version outranks any fault after Version.
+pub fn check_grammar(model: &[u8]) -> Result<(), Refusal>
     ensures { result ≡ reading_of model.now }
 {
     if MAX_MODEL_BYTES < model.len() {
-        return Reading::TooLong;
+        return Err(Refusal::TooLong);
     }
     if other_version(model) {
-        return Reading::OtherVersion;
+        return Err(Refusal::OtherVersion);
     }
     match fault_in(model, Kind::Model, DEPTH) {
-        Fault::Nowhere => Reading::Readable,
-        Fault::At(place) => Reading::Malformed(place),
+        Ok(()) => Ok(()),
+        Err(fault) => Err(Refusal::Malformed { place: fault.place }),
     }
 }
 
@@ -49,35 +44,17 @@ pub fn check_grammar(model: &[u8]) -> Reading
 fn other_version(model: &[u8]) -> bool
     ensures { result ≡ other_version model.now }
 {
-    let mut place = Place { at: 0 };
-    loop {
-        match place.element(model) {
-            Read::End => return false,
-            Read::Malformed => return false,
-            Read::Found {
-                typ,
-                start,
-                end,
-                next,
-            } => {
-                place = next;
-                if !is_optional(typ) {
-                    return is_other_version(typ, &model[start..end]);
-                }
-            }
+    for element in Elements::of(model) {
+        if !is_optional(element.typ) {
+            return is_other_version(element);
         }
     }
+    false
 }
 
-#[tactic(auto, unfolding(lvs_spec::specs::WellFormed::is_other_version))]
-fn is_other_version(typ: u32, inside: &[u8]) -> bool
-    ensures { result ≡ is_other_version (record { type = typ; inside = inside.now }) }
+#[tactic(auto, using(tlv::proofs::Bytes::same_pointwise), unfolding(lvs_spec::specs::WellFormed::is_other_version))]
+fn is_other_version(element: Element) -> bool
+    ensures { result ≡ is_other_version (element_of element.entry) }
 {
-    if typ != lvs_spec::types::VERSION {
-        return false;
-    }
-    if inside.len() != 4 {
-        return false;
-    }
-    !tlv::same_bytes(inside, &THIS_VERSION)
+    element.typ == VERSION && element.inside.len() == 4 && element.inside != THIS_VERSION.as_slice()
 }

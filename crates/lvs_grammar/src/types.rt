@@ -42,6 +42,7 @@ pub enum Meaning {
     Known(Known),
 }
 
+#[tactic(auto, unfolding(lvs_spec::specs::Grammar::meaning, lvs_spec::specs::Grammar::lookup, lvs_spec::specs::Grammar::known_types))]
 pub(crate) fn meaning_of(typ: u32) -> Meaning
     ensures { meaning_of result ≡ meaning typ }
 {
@@ -68,24 +69,19 @@ pub(crate) fn meaning_of(typ: u32) -> Meaning
 }
 
 // An unknown type that is even and at least 32 (decimal) is optional, any other is critical.
+#[tactic(auto, unfolding(lvs_spec::specs::Grammar::unknown))]
 fn unknown_type(typ: u32) -> Meaning
     ensures { meaning_of result ≡ unknown typ }
 {
-    if typ < 32 {
-        return Meaning::Critical;
+    if 32 <= typ && typ % 2 == 0 {
+        Meaning::Optional
+    } else {
+        Meaning::Critical
     }
-    if typ % 2 == 0 {
-        return Meaning::Optional;
-    }
-    Meaning::Critical
 }
 
 pub(crate) fn is_optional(typ: u32) -> bool
     ensures { result ≡ is_optional (meaning typ) }
 {
-    match meaning_of(typ) {
-        Meaning::Optional => true,
-        Meaning::Critical => false,
-        Meaning::Known(_) => false,
-    }
+    matches!(meaning_of(typ), Meaning::Optional)
 }

@@ -22,6 +22,7 @@ returns-then-eq-4 c =
 
 pub returns-else-eq-4 : goal.returns-else-eq-4
 returns-else-eq-4 c =
-    is_none_of_them _ (compared _ _ _ c.eq.ensures c.as_slice.ensures c.if-eq.false) (compared _ _ _ c.eq-else-eq.ensures c.as_slice-else-eq.ensures c.if-eq-2.false)
+    is_none_of_them _ (compared _ _ _ c.eq.ensures c.as_slice.ensures c.if-eq.false)
+    (compared _ _ _ c.eq-else-eq.ensures c.as_slice-else-eq.ensures c.if-eq-2.false)
     (compared _ _ _ c.eq-else-eq-2.ensures c.as_slice-else-eq-2.ensures c.if-eq-3.false)
     (compared _ _ _ c.eq-else-eq-3.ensures c.as_slice-else-eq-3.ensures c.if-eq-4.false)
