@@ -13,6 +13,7 @@ use lvs_spec::types::{
 use tlv::{Element, Elements};
 
 // What Constraints are tested on: the two names and the bindings as they stand, and the component that is to pass.
+#[derive(Clone, Copy)]
 pub struct Trial<'a> {
     pub names: Names<'a>,
     pub slots: &'a Slots,
