@@ -11,3 +11,9 @@ function_read (some eq) = Some Eq
 function_read (some eqType) = Some EqType
 function_read (some isValidId) = Some IsValidId
 function_read (some isValidYear) = Some IsValidYear
+
+abbrev pub known_of : Function → Known
+known_of Eq = eq
+known_of EqType = eqType
+known_of IsValidId = isValidId
+known_of IsValidYear = isValidYear

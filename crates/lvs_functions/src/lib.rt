@@ -2,8 +2,8 @@
 #![tactic(auto)]
 
 ghost use Rattle.std.specs.Prelude.{◌≡◌};
-ghost use Rattle.lvs_spec.specs.Verdict.{function_of};
-ghost use Rattle.lvs_functions.specs.Functions.{function_read};
+ghost use Rattle.lvs_spec.specs.Verdict.{arity, function_of};
+ghost use Rattle.lvs_functions.specs.Functions.{known_of, function_read};
 
 /// The four known functions.
 #[derive(Clone, Copy, Debug, PartialEq, Eq)]
@@ -12,6 +12,19 @@ pub enum Function {
     EqType,
     IsValidId,
     IsValidYear,
+}
+
+impl Function {
+    /// How many arguments it takes.
+    #[tactic(auto, unfolding(lvs_spec::specs::Verdict::arity))]
+    pub fn arity(self) -> usize
+        ensures { result ≡ arity (known_of self) }
+    {
+        match self {
+            Function::Eq | Function::EqType => 1,
+            Function::IsValidId | Function::IsValidYear => 0,
+        }
+    }
 }
 
 /// The function that a FnId names, compared byte for byte.

@@ -1,60 +1,97 @@
 -- The lowest rule that an element breaks, from its own fields and from the elements that it holds. Assumes nothing.
 use mathlib.Core.Path.{◌≡◌, refl, sym, ap, ◌∙◌}
 use mathlib.Core.Bool.{Bool, true, false, not}
-use mathlib.Core.List.{List, ◌++◌}
+use mathlib.Core.List.{List, ◌++◌, map}
+use Rattle.std.specs.Prelude.{Option as Answer, Some, None, unwrap_or}
+use Rattle.std.specs.Bool.{then_some}
+use Rattle.lvs_spec.specs.Refusals.{rule_number}
+use Rattle.lvs_spec.specs.declared.refusal.Rule.{Rule}
+use Rattle.lvs_spec.specs.declared.refusal.Rule.TheVariants as rule
+use Rattle.lvs_spec.proofs.Lists.{clash}
+use Rattle.lvs_rules.specs.Broken.{number}
 use mathlib.Core.Option.{Option, none, some}
-use Prim.Native.Nat.{ℕ, min}
+use Prim.Native.Nat.{ℕ, ◌≤◌, min}
+use native.Mathlib.Omega.{arith}
 use native.Mathlib.Nat.{min-eq_right}
 use lib.Dec.{eqb}
 use lib.ListN.{length, length-map}
 use Rattle.tlv.specs.Element.{Element, Cuts, done, broken as torn, next, cuts}
-use Rattle.tlv.specs.Lists.{when, is}
+use Rattle.tlv.specs.Lists.{when}
 use Rattle.lvs_spec.specs.Types as type
-use Rattle.lvs_spec.specs.Model.{Term, component_of, argument_of, call_of, term_from, option_of, constraint_of, pattern_edge_of, node_of, symbol_of}
+use Rattle.lvs_spec.specs.Model.{Term, component_of, argument_of, call_of, term_from, option_of, constraint_of, pattern_edge_of, node_of}
 use Rattle.tlv.specs.Fields.{each_cut, inside_of, insides, number_of, integers, the_integer, the_inside}
 use Rattle.lvs_spec.specs.Verdict.{destinations, Function as Known, eq, eqType, isValidId, isValidYear, function_of, arity, bad_call}
-use Rattle.lvs_functions.specs.Functions.{function_read}
+use Rattle.lvs_functions.specs.Functions.{known_of, function_read}
 use Rattle.lvs_functions.specs.declared.Function.{Function}
-use Rattle.lvs_functions.specs.declared.Function.TheVariants.{Eq, EqType, IsValidId, IsValidYear, Unknown}
 use Rattle.lvs_rules.specs.Lowest.{no_rule, broken, least_of, tag_rule, argument_rule, arguments_rule, call_rule, term_rule, terms_rule}
 use Rattle.lvs_rules.specs.Lowest.{option_rule, constraint_rule, named_rule, own_rule, root_rule, destinations_rule, pattern_edge_rule, node_rule}
-use Rattle.lvs_rules.specs.Lowest.{symbol_rule}
-use Rattle.lvs_rules.specs.Sorts.{type_of, item_rule}
-use Rattle.lvs_rules.specs.declared.Sort.{Sort}
-use Rattle.lvs_rules.specs.declared.Sort.TheVariants as sort
 use Rattle.lvs_rules.proofs.Least.{min_pairs, least_most, least_append, least_map}
+
+-- ---- a rule that a test says is broken
+
+pub number_broken : (b : Bool) (r : Rule) → number (then_some b r) ≡ broken (rule_number r) b
+unfolding broken
+number_broken true r = refl
+number_broken false r = refl
+
+rule_most : (r : Rule) → rule_number r ≤ no_rule
+rule_most rule.ManyNodes = omega arith
+rule_most rule.TagRange = omega arith
+rule_most rule.OwnId = omega arith
+rule_most rule.StartId = omega arith
+rule_most rule.Destination = omega arith
+rule_most rule.Signer = omega arith
+rule_most rule.OneTerm = omega arith
+rule_most rule.Parent = omega arith
+rule_most rule.Call = omega arith
+rule_most rule.Root = omega arith
+rule_most rule.Parallel = omega arith
+
+pub number_most : (o : Answer Rule) → number o ≤ no_rule
+number_most None = omega arith
+number_most (Some r) = rule_most r
 
 -- ---- a call's function and number of arguments
 
-abbrev bad_by : Function → ℕ → Bool
-bad_by Eq n = not (eqb n 1)
-bad_by EqType n = not (eqb n 1)
-bad_by IsValidId n = not (eqb n 0)
-bad_by IsValidYear n = not (eqb n 0)
-bad_by Unknown n = true
+some_injective : {A : Type 0} {x y : A} → Some x ≡ Some y → x ≡ y
+some_injective {A} {x} h = ap (λ (o : Answer A). unwrap_or o x) h
 
-bad_by_lem : (o : Option Known) (n : ℕ) → not (is (λ g. eqb n (arity g)) o) ≡ bad_by (function_read o) n
-unfolding arity
-bad_by_lem none n = refl
-bad_by_lem (some eq) n = refl
-bad_by_lem (some eqType) n = refl
-bad_by_lem (some isValidId) n = refl
-bad_by_lem (some isValidYear) n = refl
+-- as the code reads a function's name
+pub unknown_call : (b : List ℕ) {name : List ℕ} → name ≡ the_inside type.FnId b → function_read (function_of name) ≡ None → 12 ≡ arguments_rule (call_of b)
+unfolding arguments_rule bad_call call_of broken
+unknown_call b {name} p h = go (function_of name) refl h
+  where
+    go : (o : Option Known) → function_of name ≡ o → function_read o ≡ None → 12 ≡ arguments_rule (call_of b)
+    go none q h = rw (← p, q)
+    go (some eq) q h = clash (cc)
+    go (some eqType) q h = clash (cc)
+    go (some isValidId) q h = clash (cc)
+    go (some isValidYear) q h = clash (cc)
 
-pub bad_call_lem : (b : List ℕ) {name : List ℕ} {n r : ℕ} {f k : Function} → name ≡ the_inside type.FnId b → n ≡ length (insides type.UserFnArg b)
-    → f ≡ function_read (function_of name) → f ≡ k → r ≡ broken 12 (bad_by k n) → r ≡ arguments_rule (call_of b)
+pub known_call : (b : List ℕ) {name : List ℕ} {n : ℕ} {f : Function} → name ≡ the_inside type.FnId b → n ≡ length (insides type.UserFnArg b)
+    → function_read (function_of name) ≡ Some f → broken 12 (not (eqb n (arity (known_of f)))) ≡ arguments_rule (call_of b)
 unfolding arguments_rule bad_call call_of
-bad_call_lem b {name} {n} {r} {f} {k} p q g h e =
-    let z : bad_call (call_of b) ≡ bad_by k n =
-    rw (length-map (insides type.UserFnArg b) argument_of, ← q, ← p) (bad_by_lem (function_of name) n ∙ ap (λ (x : Function). bad_by x n) (sym g ∙ h)) in
-    e ∙ ap (broken 12) (sym z)
+known_call b {name} {n} {f} p c h = go (function_of name) refl h
+  where
+    count : length (map argument_of (insides type.UserFnArg b)) ≡ n
+    count = length-map (insides type.UserFnArg b) argument_of ∙ sym c
+
+    by : (k : Known) → function_of name ≡ some k → known_of f ≡ k → broken 12 (not (eqb n (arity (known_of f)))) ≡ arguments_rule (call_of b)
+    by k q e = rw (← p, q, count, e)
+
+    go : (o : Option Known) → function_of name ≡ o → function_read o ≡ Some f → broken 12 (not (eqb n (arity (known_of f)))) ≡ arguments_rule (call_of b)
+    go none q h = clash (cc)
+    go (some eq) q h = by eq q (ap known_of (sym (some_injective h)))
+    go (some eqType) q h = by eqType q (ap known_of (sym (some_injective h)))
+    go (some isValidId) q h = by isValidId q (ap known_of (sym (some_injective h)))
+    go (some isValidYear) q h = by isValidYear q (ap known_of (sym (some_injective h)))
 
 -- ---- an option's Tags and calls
 
-tag_in : List ℕ → ℕ
+abbrev pub tag_in : List ℕ → ℕ
 tag_in x = tag_rule (number_of x)
 
-call_in : List ℕ → ℕ
+abbrev pub call_in : List ℕ → ℕ
 call_in x = call_rule (call_of x)
 
 module _ (x : List ℕ) where
@@ -64,12 +101,12 @@ module _ (x : List ℕ) where
   value_part false = refl
 
   tag_part : (a : Bool) → least_of term_rule (when a (Term.tag (number_of x))) ≡ least_of tag_in (when a x)
-  unfolding least_of term_rule tag_in
+  unfolding least_of term_rule
   tag_part true = refl
   tag_part false = refl
 
   call_part : (a : Bool) → least_of term_rule (when a (Term.call (call_of x))) ≡ least_of call_in (when a x)
-  unfolding least_of term_rule call_in
+  unfolding least_of term_rule
   call_part true = refl
   call_part false = refl
 
@@ -106,63 +143,37 @@ option_terms b = terms_parts (cuts b)
 
 -- ---- each sort
 
-module _ (n : ℕ) (b : List ℕ) where
-  -- what a sweep over the elements of sort k in b answers
-  abbrev swept : Sort → ℕ
-  swept k = least_of (item_rule n k) (insides (type_of k) b)
+-- what the elements of a type in b break at least, where f says it of one
+abbrev pub swept : (List ℕ → ℕ) → ℕ → List ℕ → ℕ
+swept f k b = least_of f (insides k b)
 
-  module _ {k : Sort} {r : ℕ} where
-    pub argument_item : k ≡ sort.Argument → r ≡ argument_rule (argument_of b) → r ≡ item_rule n k b
-    unfolding item_rule
-    argument_item e h = rw e h
+-- each container by those in it
+module _ (b : List ℕ) where
+  pub call_is : min (arguments_rule (call_of b)) (swept (λ x. argument_rule (argument_of x)) type.UserFnArg b) ≡ call_rule (call_of b)
+  unfolding call_rule call_of
+  call_is = rw (least_map argument_rule argument_of (insides type.UserFnArg b))
 
-    pub call_item : {a x : ℕ} → k ≡ sort.Call → a ≡ arguments_rule (call_of b) → x ≡ swept sort.Argument → r ≡ min a x → r ≡ item_rule n k b
-    unfolding item_rule type_of call_rule call_of
-    call_item e f g h = rw (e, h, f, g, least_map argument_rule argument_of (insides type.UserFnArg b))
+  pub option_is : min (terms_rule (option_of b)) (min (swept tag_in type.Tag b) (swept call_in type.UserFnCall b)) ≡ option_rule (option_of b)
+  unfolding option_rule
+  option_is = rw (option_terms b)
 
-    pub tag_item : {t : ℕ} → k ≡ sort.Tag → t ≡ number_of b → r ≡ tag_rule t → r ≡ item_rule n k b
-    unfolding item_rule
-    tag_item e f h = rw (e, h, f)
+  pub constraint_is : swept (λ x. option_rule (option_of x)) type.ConstraintOption b ≡ constraint_rule (constraint_of b)
+  unfolding constraint_rule constraint_of
+  constraint_is = sym (least_map option_rule option_of (insides type.ConstraintOption b))
 
-    pub option_item : {a t c x : ℕ} → k ≡ sort.ConstraintOption → a ≡ terms_rule (option_of b) → t ≡ swept sort.Tag → c ≡ swept sort.Call
-        → x ≡ min t c → r ≡ min a x → r ≡ item_rule n k b
-    unfolding item_rule type_of option_rule tag_in call_in
-    option_item e f g h p q = rw (e, q, p, f, g, h, option_terms b)
+  pub pattern_edge_is : min (tag_rule (the_integer type.Tag b)) (swept (λ x. constraint_rule (constraint_of x)) type.Constraint b)
+      ≡ pattern_edge_rule (pattern_edge_of b)
+  unfolding pattern_edge_rule pattern_edge_of
+  pattern_edge_is = rw (least_map constraint_rule constraint_of (insides type.Constraint b))
 
-    pub constraint_item : k ≡ sort.Constraint → r ≡ swept sort.ConstraintOption → r ≡ item_rule n k b
-    unfolding item_rule type_of constraint_rule constraint_of
-    constraint_item e h = rw (e, h, least_map option_rule option_of (insides type.ConstraintOption b))
-
-    pub pattern_edge_item : {t a x : ℕ} → k ≡ sort.PatternEdge → t ≡ the_integer type.Tag b → a ≡ tag_rule t → x ≡ swept sort.Constraint → r ≡ min a x
-        → r ≡ item_rule n k b
-    unfolding item_rule type_of pattern_edge_rule pattern_edge_of
-    pattern_edge_item e ft fa fx h = rw (e, h, fa, ft, fx, least_map constraint_rule constraint_of (insides type.Constraint b))
-
-    pub signer_item : {s : ℕ} → k ≡ sort.Signer → s ≡ number_of b → r ≡ named_rule 9 n s → r ≡ item_rule n k b
-    unfolding item_rule
-    signer_item e f h = rw (e, h, f)
-
-    pub symbol_item : {t : ℕ} → k ≡ sort.Symbol → t ≡ the_integer type.Tag b → r ≡ tag_rule t → r ≡ item_rule n k b
-    unfolding item_rule symbol_rule symbol_of
-    symbol_item e f h = rw (e, h, f)
-
--- a Node, where `parents` are those of n Nodes
-pub node_item : (start n i : ℕ) (parents b : List ℕ) {own root own' to p s x y r : ℕ} → n ≡ length parents → own ≡ own_rule i (node_of b)
-    → root ≡ root_rule parents i start → own' ≡ min own root → to ≡ destinations_rule parents i (destinations (node_of b))
-    → p ≡ swept n b sort.PatternEdge → s ≡ swept n b sort.Signer → x ≡ min p s → y ≡ min to x → r ≡ min own' y → r ≡ node_rule start parents i (node_of b)
-unfolding item_rule type_of node_rule node_of integers
-node_item start n i parents b count fo fr fo' ft fp fs fx fy h =
-    rw (
-      h,
-      fo',
-      fo,
-      fr,
-      fy,
-      ft,
-      fx,
-      fp,
-      fs,
-      ← count,
-      least_map pattern_edge_rule pattern_edge_of (insides type.PatternEdge b),
-      least_map (named_rule 9 n) number_of (insides type.SignConstraint b),
-    )
+  pub node_is : (start i : ℕ) (parents : List (Answer ℕ))
+      → min (min (own_rule i (node_of b)) (root_rule parents i start)) (min (destinations_rule parents i (destinations (node_of b)))
+      (min (swept (λ x. pattern_edge_rule (pattern_edge_of x)) type.PatternEdge b)
+      (swept (λ x. named_rule 9 (length parents) (number_of x)) type.SignConstraint b)))
+      ≡ node_rule start parents i (node_of b)
+  unfolding node_rule node_of integers
+  node_is start i parents =
+      rw (
+        least_map pattern_edge_rule pattern_edge_of (insides type.PatternEdge b),
+        least_map (named_rule 9 (length parents)) number_of (insides type.SignConstraint b),
+      )

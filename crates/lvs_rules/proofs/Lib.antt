@@ -1,5 +1,5 @@
 pub mod Least
-pub mod ParentWords
+pub mod ParentTable
 pub mod Rows
 pub mod Pass
 pub mod Nodes

@@ -1,41 +1,61 @@
--- One turn of each loop over a container's elements, and its end, by the law of `tlv`'s Gathered. Assumes nothing.
+-- One turn of each loop over a container's elements, and its end: what was found so far, with what is left, makes the whole. Assumes nothing.
 use mathlib.Core.Path.{◌≡◌, refl, sym, ap, ◌∙◌}
 use mathlib.Core.Logic.{◌⊎◌, inl, inr, ⊎_elim}
-use mathlib.Core.Bool.{Bool, true, false}
-use mathlib.Core.List.{List, [], ◌∷◌, ◌++◌, map}
-use mathlib.Core.Option.{some}
-use Prim.Native.Nat.{ℕ, suc, ◌+◌, ◌-◌, ◌≤◌, ◌<◌, min}
-use native.Mathlib.Nat.{min_comm, le_refl}
+use mathlib.Core.Bool.{Bool, true, false, cond, ◌||◌}
+use mathlib.Core.List.{List, [], ◌∷◌, ◌++◌, map, append_assoc, append-nil}
+use Prim.Native.Nat.{ℕ, suc, ◌+◌, ◌≤◌, ◌<◌, min}
+use native.Mathlib.Nat.{le_refl, min_comm, min-eq_right}
 use native.Mathlib.Numerals.{add-one}
 use native.Mathlib.Omega.{arith}
-use borrow.Author.Tests.{eqb-true, eqb-false, ne_eqb}
+use borrow.Author.Tests.{eqb-true, eqb-false, eq-eqb, ne_eqb}
 use lib.Dec.{eqb}
-use lib.ListN.{length, take, drop, set, length-append, length-map, length-take, length-set}
+use lib.ListN.{length, take, set, length-append, length-map, length-take, length-set}
 use lib.Seq.{take-suc-set}
+use Rattle.std.specs.Prelude.{Option as Answer, Some}
+use Rattle.std.specs.List.{filter}
 use Rattle.tlv.specs.Element.{Element}
-use Rattle.tlv.specs.Fields.{insides, number_of, integers}
-use Rattle.tlv.specs.Lists.{first, first_or}
-use Rattle.tlv.specs.declared.Place.{Place}
-use Rattle.tlv.proofs.Cuts.{Step}
-use Rattle.tlv.proofs.Gathered.{Stop, over, each_one, each_none, each_stop, insides_found, insides_stop, read_found, read_other, read_stop, Gathering}
-use Rattle.tlv.proofs.Gathered.{Gathered, started, passed, took, ended, listed, rest_is, counted, one_left, each_most, insides_most}
+use Rattle.tlv.specs.Fields.{inside_of, insides, elements, number_of, integers}
+use Rattle.tlv.specs.Lists.{each, first, first_or}
+use Rattle.tlv.proofs.Gathered.{each_most}
+use Rattle.tlv.proofs.Fields.{each_listed, insides_listed}
 use Rattle.lvs_spec.specs.Limits.{max_nodes}
 use Rattle.lvs_spec.specs.Types as type
-use Rattle.lvs_spec.specs.Model.{Argument, Term, component_of, call_of, argument_from, argument_of, term_from, node_of}
-use Rattle.lvs_rules.specs.Lowest.{no_rule, least_of, tag_rule, argument_rule, no_parent, parent_from, parent_index}
-use Rattle.lvs_rules.specs.Faults.{earlier, lowest_from, no_fault, lowest}
-use Rattle.lvs_rules.specs.declared.Fault.{Fault}
-use Rattle.lvs_rules.proofs.Least.{min_assoc}
+use Rattle.lvs_spec.specs.Model.{Argument, Term, component_of, call_of, argument_from, argument_of, term_from, option_of, node_of}
+use Rattle.lvs_rules.specs.Lowest.{no_rule, least_of, parent_from, parent_index}
+use Rattle.lvs_rules.specs.Faults.{Fault, earlier, lowest_from, no_fault, lowest}
+use Rattle.lvs_rules.proofs.Least.{min_assoc, least_most}
 
--- the inside of the element that was found
-abbrev part : List ℕ → ℕ → ℕ → List ℕ
-part s start stop = take (stop - start) (drop start s)
+-- ---- the insides of the elements of type k that are left
 
--- ---- how many elements of type k
+abbrev pub left_of : ℕ → List Element → List (List ℕ)
+left_of k es = each (inside_of k) es
 
-module _ {k : ℕ} {s : List ℕ} {at m : ℕ} (inv : Gathered counted (insides k) s at m) {t start stop : ℕ} {n : Place} (st : Step s at t start stop n) where
-  pub inside_room : t ≡ k → m < length s
-  inside_room e = omega (arith, one_left inv (insides_found k st e), insides_most k s)
+module _ (k : ℕ) (e : Element) (es : List Element) where
+  pub left_found : e.type ≡ k → left_of k (e ∷ es) ≡ e.inside ∷ left_of k es
+  unfolding inside_of
+  left_found q = rw (eq-eqb k e.type (sym q))
+
+  pub left_other : (e.type ≡ k → ⊥) → left_of k (e ∷ es) ≡ left_of k es
+  unfolding inside_of
+  left_other no' = rw (ne_eqb k e.type (λ q. no' (sym q)))
+
+-- ---- how many
+
+pub elements_most : (s : List ℕ) → length (elements s) ≤ length s
+unfolding elements
+elements_most s = each_most (λ e. e ∷ []) (λ e. le_refl 1) s
+
+filtered : (k : ℕ) (es : List Element) → length (filter (λ e. eqb e.type k) es) ≡ length (left_of k es)
+filtered k [] = refl
+filtered k (e ∷ es) = go (eqb e.type k) refl (filtered k es)
+  where
+    go : (b : Bool) → eqb e.type k ≡ b → length (filter (λ e. eqb e.type k) es) ≡ length (left_of k es)
+        → length (filter (λ e. eqb e.type k) (e ∷ es)) ≡ length (left_of k (e ∷ es))
+    go true q h = rw (q, left_found k e es (eqb-true e.type k q)) (ap suc h)
+    go false q h = rw (q, left_other k e es (eqb-false e.type k q)) h
+
+pub of_type : (k : ℕ) (s : List ℕ) → length (filter (λ e. eqb e.type k) (elements s)) ≡ length (insides k s)
+of_type k s = filtered k (elements s) ∙ ap length (sym (insides_listed k s))
 
 -- ---- how many terms
 
@@ -57,30 +77,35 @@ module _ {t : ℕ} (b : List ℕ) where
         ne_eqb type.UserFnCall t (λ e. no' (inr (inr (sym e)))),
       )
 
--- an element is one term at most
-one_term : (e : Element) → length (term_from e) ≤ 1
+abbrev pub is_term : Element → Bool
+is_term e = eqb e.type type.Value || (eqb e.type type.Tag || eqb e.type type.UserFnCall)
+
+-- an element is one term or none
+one_term : (e : Element) → length (term_from e) ≡ cond (is_term e) 1 0
 one_term e = go (eqb e.type type.Value) refl (eqb e.type type.Tag) refl (eqb e.type type.UserFnCall) refl
   where
-    one : IsTerm e.type → length (term_from e) ≤ 1
-    one h = let (x, q) = a_term e.inside h in rw q (le_refl 1)
+    one : IsTerm e.type → length (term_from e) ≡ 1
+    one h = let (x, q) = a_term e.inside h in rw q
 
     go : (a : Bool) → eqb e.type type.Value ≡ a → (b : Bool) → eqb e.type type.Tag ≡ b → (c : Bool) → eqb e.type type.UserFnCall ≡ c
-        → length (term_from e) ≤ 1
+        → length (term_from e) ≡ cond (a || (b || c)) 1 0
     go true p b q c r = one (inl (eqb-true _ _ p))
     go false p true q c r = one (inr (inl (eqb-true _ _ q)))
     go false p false q true r = one (inr (inr (eqb-true _ _ r)))
-    go false p false q false r =
-        rw (no_term {t = e.type} e.inside (⊎_elim (eqb-false _ _ p) (⊎_elim (eqb-false _ _ q) (eqb-false _ _ r)))) (omega arith)
+    go false p false q false r = rw (no_term {t = e.type} e.inside (⊎_elim (eqb-false _ _ p) (⊎_elim (eqb-false _ _ q) (eqb-false _ _ r))))
 
-module _ {s : List ℕ} {at m : ℕ} (inv : Gathered counted (over term_from) s at m) {t start stop : ℕ} {n : Place} (st : Step s at t start stop n) where
-  pub term_counted : IsTerm t → Gathered counted (over term_from) s n.at (m + 1)
-  term_counted h = let (x, e) = a_term (part s start stop) h in took inv (each_one term_from st e) refl
+terms_filtered : (es : List Element) → length (filter is_term es) ≡ length (each term_from es)
+terms_filtered [] = refl
+terms_filtered (e ∷ es) = go (is_term e) refl (terms_filtered es)
+  where
+    go : (b : Bool) → is_term e ≡ b → length (filter is_term es) ≡ length (each term_from es)
+        → length (filter is_term (e ∷ es)) ≡ length (term_from e ++ each term_from es)
+    go true q h = rw (q, length-append (term_from e) (each term_from es), one_term e, q, h) (omega arith)
+    go false q h = rw (q, length-append (term_from e) (each term_from es), one_term e, q, h) (omega arith)
 
-  pub term_passed : (IsTerm t → ⊥) → Gathered counted (over term_from) s n.at m
-  term_passed no' = passed inv (each_none term_from st (no_term _ no'))
-
-  pub term_room : IsTerm t → m < length s
-  term_room h = let (x, e) = a_term (part s start stop) h in omega (arith, one_left inv (each_one term_from st e), each_most term_from one_term s)
+pub terms_counted : (s : List ℕ) → length (filter is_term (elements s)) ≡ length (option_of s)
+unfolding option_of
+terms_counted s = terms_filtered (elements s) ∙ ap length (sym (each_listed term_from s))
 
 -- ---- the lowest rule of the elements of type k
 
@@ -89,158 +114,143 @@ unfolding least_of
 least_more g [] x = min_comm (g x) no_rule
 least_more g (y ∷ ys) x = rw (least_more g ys x) (sym (min_assoc _ _ _))
 
-abbrev pub least : {A : Type 0} → (A → ℕ) → Gathering A ℕ
-least g = record { of = least_of g; add = λ rule x. min rule (g x); more = least_more g }
+-- of those that are left
+abbrev pub least_left : (List ℕ → ℕ) → ℕ → List Element → ℕ
+least_left f k es = least_of f (left_of k es)
 
-pub none_swept : (g : List ℕ → ℕ) (k : ℕ) (s : List ℕ) → Gathered (least g) (insides k) s 0 no_rule
+pub sweep_start : (f : List ℕ → ℕ) (k : ℕ) (s : List ℕ) → min no_rule (least_left f k (elements s)) ≡ least_of f (insides k s)
+sweep_start f k s = min-eq_right (least_most f _) ∙ ap (least_of f) (sym (insides_listed k s))
+
+pub sweep_end : (f : List ℕ → ℕ) (k n : ℕ) → n ≤ no_rule → min n (least_left f k []) ≡ n
 unfolding least_of
-none_swept g k s = started
+sweep_end f k n h = omega arith
 
-pub sweep_found : (g : List ℕ → ℕ) {k : ℕ} {s : List ℕ} {at rule : ℕ} → Gathered (least g) (insides k) s at rule
-    → {t start stop : ℕ} {n : Place} → Step s at t start stop n → {r r' : ℕ} → t ≡ k → r ≡ g (part s start stop) → r' ≡ min rule r
-    → Gathered (least g) (insides k) s n.at r'
-sweep_found g {k} inv st e f q = took inv (insides_found k st e) (q ∙ rw f)
+module _ (f : List ℕ → ℕ) (k : ℕ) (e : Element) (es : List Element) where
+  pub sweep_found : (m : ℕ) {r n : ℕ} → e.type ≡ k → r ≡ f e.inside → n ≡ min m r → min n (least_left f k es) ≡ min m (least_left f k (e ∷ es))
+  unfolding least_of
+  sweep_found m q g h = rw (h, g, left_found k e es q) (min_assoc m (f e.inside) (least_left f k es))
+
+  pub sweep_other : (e.type ≡ k → ⊥) → least_left f k es ≡ least_left f k (e ∷ es)
+  sweep_other no' = ap (least_of f) (sym (left_other k e es no'))
 
 -- ---- the first argument
 
-module _ {s : List ℕ} {at : ℕ} (inv : Gathered listed (over argument_from) s at []) where
-  argument_is : {xs : List Argument} → over argument_from (drop at s) ≡ xs → argument_of s ≡ first_or (Argument.tag 0) xs
-  unfolding argument_of
-  argument_is e = ap (first_or (Argument.tag 0)) (rest_is inv ∙ e)
+abbrev pub argument_left : List Element → Argument
+argument_left es = first_or (Argument.tag 0) (each argument_from es)
 
-  module _ {t start stop : ℕ} {n : Place} (st : Step s at t start stop n) where
-    pub value_first : t ≡ type.Value → no_rule ≡ argument_rule (argument_of s)
-    unfolding argument_from argument_rule
-    value_first e =
-        let h : argument_from (record { type = t; inside = part s start stop }) ≡ Argument.value (component_of (part s start stop)) ∷ [] = rw e in
-        rw (argument_is (each_one argument_from st h))
+pub argument_start : (s : List ℕ) → argument_left (elements s) ≡ argument_of s
+unfolding argument_of
+argument_start s = ap (first_or (Argument.tag 0)) (sym (each_listed argument_from s))
 
-    pub tag_first : {r : ℕ} → t ≡ type.Tag → r ≡ tag_rule (number_of (part s start stop)) → r ≡ argument_rule (argument_of s)
-    unfolding argument_from argument_rule
-    tag_first e f =
-        let h : argument_from (record { type = t; inside = part s start stop }) ≡ Argument.tag (number_of (part s start stop)) ∷ [] = rw e in
-        rw (argument_is (each_one argument_from st h)) f
+module _ (e : Element) (es : List Element) where
+  pub value_first : e.type ≡ type.Value → argument_left (e ∷ es) ≡ Argument.value (component_of e.inside)
+  unfolding argument_from
+  value_first q = rw q
 
-    pub no_argument : (t ≡ type.Value → ⊥) → (t ≡ type.Tag → ⊥) → Gathered listed (over argument_from) s n.at []
-    unfolding argument_from
-    no_argument no_value no-tag =
-        passed inv (each_none argument_from st (rw (ne_eqb type.Value t (λ e. no_value (sym e)), ne_eqb type.Tag t (λ e. no-tag (sym e)))))
+  pub tag_first : e.type ≡ type.Tag → argument_left (e ∷ es) ≡ Argument.tag (number_of e.inside)
+  unfolding argument_from
+  tag_first q = rw q
 
-  pub argument_none : {r : ℕ} → Stop s at → r ≡ tag_rule 0 → r ≡ argument_rule (argument_of s)
-  unfolding argument_rule
-  argument_none st f = rw (argument_is (each_stop argument_from st)) f
+  pub no_argument : (e.type ≡ type.Value → ⊥) → (e.type ≡ type.Tag → ⊥) → argument_left (e ∷ es) ≡ argument_left es
+  unfolding argument_from
+  no_argument no_value no-tag = rw (ne_eqb type.Value e.type (λ q. no_value (sym q)), ne_eqb type.Tag e.type (λ q. no-tag (sym q)))
 
 -- ---- the first Parent
 
-module _ {s : List ℕ} {at : ℕ} (inv : Gathered listed (integers type.Parent) s at []) where
-  pub parent_first : {t start stop : ℕ} {n : Place} {p r : ℕ} → Step s at t start stop n → t ≡ type.Parent → p ≡ number_of (part s start stop)
-      → r ≡ parent_from (some p) → r ≡ parent_index (node_of s)
-  unfolding parent_index node_of integers
-  parent_first st e f g = g ∙ ap parent_from (ap some f ∙ sym (ap first (rest_is inv ∙ read_found number_of type.Parent st e)))
+abbrev pub parent_left : List Element → Answer ℕ
+parent_left es = parent_from (first (map number_of (left_of type.Parent es)))
 
-  pub no_parent_lem : {t start stop : ℕ} {n : Place} → Step s at t start stop n → (t ≡ type.Parent → ⊥) → Gathered listed (integers type.Parent) s n.at []
-  unfolding integers
-  no_parent_lem st no' = passed inv (read_other number_of type.Parent st no')
+pub parent_start : (s : List ℕ) → parent_left (elements s) ≡ parent_index (node_of s)
+unfolding parent_index node_of integers
+parent_start s = ap (λ (xs : List (List ℕ)). parent_from (first (map number_of xs))) (sym (insides_listed type.Parent s))
 
-  pub parent_none : Stop s at → no_parent ≡ parent_index (node_of s)
-  unfolding parent_index node_of integers parent_from
-  parent_none st = ap parent_from (sym (ap first (rest_is inv ∙ read_stop number_of type.Parent st)))
+module _ (e : Element) (es : List Element) where
+  pub parent_first : e.type ≡ type.Parent → parent_left (e ∷ es) ≡ Some (number_of e.inside)
+  parent_first q = ap (λ (xs : List (List ℕ)). parent_from (first (map number_of xs))) (left_found type.Parent e es q)
+
+  pub no_parent : (e.type ≡ type.Parent → ⊥) → parent_left (e ∷ es) ≡ parent_left es
+  no_parent no' = ap (λ (xs : List (List ℕ)). parent_from (first (map number_of xs))) (left_other type.Parent e es no')
 
 -- ---- the Parents of all Nodes
 
-abbrev parent_in : List ℕ → ℕ
+abbrev parent_in : List ℕ → Answer ℕ
 parent_in b = parent_index (node_of b)
 
-abbrev parents_in : List ℕ → List ℕ
-parents_in s = map parent_in (insides type.Node s)
+abbrev pub nodes_left : List Element → List (List ℕ)
+nodes_left es = left_of type.Node es
 
--- what is listed is shorter than the whole while an entry is left
-one_more : {A : Type 0} {view : List ℕ → List A} {s : List ℕ} {at : ℕ} {xs : List A} {x : A} {rest : List A} → Gathered listed view s at xs
-    → view (drop at s) ≡ x ∷ rest → length xs < length (view s)
-one_more {xs = xs} {x} {rest} inv e =
-    let h = simp length-append at (ap length (rest_is inv ∙ ap (λ (l : List _). xs ++ l) e)) in
-    omega (arith, h)
-
--- the first m words are the Parents of the Nodes before the place
-pub record Filling (s : List ℕ) (at m : ℕ) (parents : List ℕ) : Type 0 where
+-- the first m entries are the Parents of the Nodes before these
+pub record Filling (s : List ℕ) (es : List Element) (m : ℕ) (parents : List (Answer ℕ)) : Type 0 where
   pub size : length parents ≡ max_nodes
-  pub most : m ≤ max_nodes
-  pub words : Gathered listed parents_in s at (take m parents)
+  pub room : m + length (nodes_left es) ≤ max_nodes
+  pub words : take m parents ++ map parent_in (nodes_left es) ≡ map parent_in (insides type.Node s)
 
-pub none_filled : (s parents : List ℕ) → length parents ≡ max_nodes → Filling s 0 0 parents
-none_filled s parents e = record { size = e; most = omega arith; words = started }
+pub none_filled : (s : List ℕ) (parents : List (Answer ℕ)) → length parents ≡ max_nodes → length (insides type.Node s) ≤ max_nodes
+    → Filling s (elements s) 0 parents
+none_filled s parents e h =
+    let l = insides_listed type.Node s in
+    record { size = e; room = omega (arith, h, ap length l); words = ap (map parent_in) (sym l) }
 
-module _ {s : List ℕ} {at m : ℕ} {parents : List ℕ} (few : length (insides type.Node s) ≤ max_nodes) (inv : Filling s at m parents) where
-  module _ {t start stop : ℕ} {n : Place} (st : Step s at t start stop n) where
-    pub room : t ≡ type.Node → m < max_nodes
-    room e =
-        let l : length (insides type.Node s) ≡ length (parents_in s) = sym (length-map (insides type.Node s) parent_in) in
-        let w = one_more inv.words (read_found parent_in type.Node st e) in
-        let z : length (take m parents) ≡ min m (length parents) = length-take m parents in
-        let q = inv.size in
-        omega arith
+module _ {s : List ℕ} {e : Element} {es : List Element} {m : ℕ} {parents : List (Answer ℕ)} (inv : Filling s (e ∷ es) m parents) where
+  pub free : e.type ≡ type.Node → m < max_nodes
+  free q = omega (arith, inv.room, ap length (left_found type.Node e es q))
 
-    pub parent_filled : {r : ℕ} → t ≡ type.Node → r ≡ parent_in (part s start stop) → Filling s n.at (m + 1) (set parents m r)
-    parent_filled {r} e f =
-        let free = room e in
-        let z = inv.size in
-        record {
-          size = length-set parents m r ∙ z;
-          most = omega arith;
-          words = took inv.words (read_found parent_in type.Node st e) (rw (add-one m, take-suc-set parents m r (omega arith), f));
-        }
+  pub parent_filled : {r : Answer ℕ} → e.type ≡ type.Node → r ≡ parent_in e.inside → Filling s es (m + 1) (set parents m r)
+  parent_filled {r} q f =
+      let l = left_found type.Node e es q in
+      let w = rw l at inv.words in
+      let z = inv.size in
+      record {
+        size = length-set parents m r ∙ z;
+        room = omega (arith, inv.room, ap length l);
+        words =
+            rw (add-one m, take-suc-set parents m r (omega (arith, free q)), f)
+            (append_assoc (take m parents) (parent_in e.inside ∷ []) (map parent_in (nodes_left es)) ∙ w);
+      }
 
-    pub parent_passed : (t ≡ type.Node → ⊥) → Filling s n.at m parents
-    parent_passed no' = record { size = inv.size; most = inv.most; words = passed inv.words (read_other parent_in type.Node st no') }
+  pub parent_passed : (e.type ≡ type.Node → ⊥) → Filling s es m parents
+  parent_passed no' =
+      let l = left_other type.Node e es no' in
+      record { size = inv.size; room = omega (arith, inv.room, ap length l); words = rw (← l) inv.words }
 
-  pub all_filled : Stop s at → take (length (insides type.Node s)) parents ≡ parents_in s
-  all_filled st =
-      let e : take m parents ≡ parents_in s = ended inv.words (read_stop parent_in type.Node st) in
-      let l : length (insides type.Node s) ≡ length (parents_in s) = sym (length-map (insides type.Node s) parent_in) in
-      let ll = ap length e in
-      let z : length (take m parents) ≡ min m (length parents) = length-take m parents in
-      let q = inv.size in
-      let k : length (insides type.Node s) ≡ m = let h = inv.most in omega arith in
-      rw k e
+pub all_filled : {s : List ℕ} {m : ℕ} {parents : List (Answer ℕ)} → Filling s [] m parents
+    → take (length (insides type.Node s)) parents ≡ map parent_in (insides type.Node s)
+all_filled {s} {m} {parents} inv =
+    let e : take m parents ≡ map parent_in (insides type.Node s) = sym (append-nil (take m parents)) ∙ inv.words in
+    let l : length (insides type.Node s) ≡ length (map parent_in (insides type.Node s)) = sym (length-map (insides type.Node s) parent_in) in
+    let k : length (insides type.Node s) ≡ m = omega (arith, l, ap length e, length-take m parents, inv.size, inv.room) in
+    rw k e
 
 -- ---- the lowest fault of all Nodes
 
--- f i b is the lowest rule that the Node b at index i breaks
+-- `fault` is that of the Nodes before these, of which the next has index i; f i b is the lowest rule that the Node b at index i breaks
+pub record Scanned (f : ℕ → List ℕ → ℕ) (s : List ℕ) (es : List Element) (i : ℕ) (fault : Fault) : Type 0 where
+  pub count : i + length (nodes_left es) ≡ length (insides type.Node s)
+  pub rest : lowest_from f fault i (nodes_left es) ≡ lowest f (insides type.Node s)
+
 module _ (f : ℕ → List ℕ → ℕ) where
-  from_more : (fault : Fault) (i : ℕ) (xs : List (List ℕ)) (x : List ℕ) (j : ℕ) → j ≡ i + length xs
-      → lowest_from f fault i (xs ++ (x ∷ [])) ≡ earlier (lowest_from f fault i xs) (record { rule = f j x; node = j })
-  unfolding lowest_from
-  from_more fault i [] x j e = let q : i ≡ j = omega arith in rw q
-  from_more fault i (y ∷ ys) x j e = from_more (earlier fault (record { rule = f i y; node = i })) (suc i) ys x j (omega arith)
-
-  pub fault_more : (xs : List (List ℕ)) (x : List ℕ) → lowest f (xs ++ (x ∷ [])) ≡ earlier (lowest f xs) (record { rule = f (length xs) x; node = length xs })
+  pub none_scanned : (s : List ℕ) → Scanned f s (elements s) 0 no_fault
   unfolding lowest
-  fault_more xs x = from_more no_fault 0 xs x (length xs) (omega arith)
+  none_scanned s =
+      let l = insides_listed type.Node s in
+      record { count = omega (arith, ap length l); rest = ap (lowest_from f no_fault 0) (sym l) }
 
-  -- with the number of Nodes
-  abbrev pub faults : Gathering (List ℕ) (ℕ × Fault)
-  faults =
-      record {
-        of = λ xs. (length xs, lowest f xs);
-        add = λ b x. (b.0 + 1, earlier b.1 (record { rule = f b.0 x; node = b.0 }));
-        more = λ xs x t. (length-append xs (x ∷ []) t, fault_more xs x t);
-      }
+  module _ {s : List ℕ} {e : Element} {es : List Element} {i : ℕ} {fault : Fault} (inv : Scanned f s (e ∷ es) i fault) where
+    pub node_index : e.type ≡ type.Node → i < length (insides type.Node s)
+    node_index q = omega (arith, inv.count, ap length (left_found type.Node e es q))
 
-  pub none_scanned : (s : List ℕ) → Gathered faults (insides type.Node) s 0 (0, no_fault)
-  unfolding lowest lowest_from
-  none_scanned s = started
+    pub node_scanned : {r : ℕ} {fault' : Fault} → e.type ≡ type.Node → r ≡ f i e.inside → fault' ≡ earlier fault (record { rule = r; node = i })
+        → Scanned f s es (i + 1) fault'
+    unfolding lowest_from
+    node_scanned q g h =
+        let l = left_found type.Node e es q in
+        record { count = omega (arith, inv.count, ap length l); rest = rw (h, g, add-one i) (rw l at inv.rest) }
 
-  module _ {s : List ℕ} {at i : ℕ} {fault : Fault} (inv : Gathered faults (insides type.Node) s at (i, fault)) where
-    module _ {t start stop : ℕ} {n : Place} (st : Step s at t start stop n) where
-      pub node_index : t ≡ type.Node → i < length (insides type.Node s)
-      node_index e =
-          let indices : Gathered counted (insides type.Node) s at i =
-          record { taken = inv.taken; whole = inv.whole; is = ap (λ (b : ℕ × Fault). b.0) inv.is } in
-          one_left indices (insides_found type.Node st e)
+    pub node_passed : (e.type ≡ type.Node → ⊥) → Scanned f s es i fault
+    node_passed no' =
+        let l = left_other type.Node e es no' in
+        record { count = omega (arith, inv.count, ap length l); rest = rw (← l) inv.rest }
 
-      pub node_scanned : {r : ℕ} {fault' : Fault} → t ≡ type.Node → r ≡ f i (part s start stop) → fault' ≡ earlier fault (record { rule = r; node = i })
-          → Gathered faults (insides type.Node) s n.at (i + 1, fault')
-      node_scanned e q g = took inv (insides_found type.Node st e) (rw (g, q))
-
-    pub all_scanned : Stop s at → fault ≡ lowest f (insides type.Node s)
-    all_scanned st = ap (λ (b : ℕ × Fault). b.1) (ended inv (insides_stop type.Node st))
+  pub all_scanned : {s : List ℕ} {i : ℕ} {fault : Fault} → Scanned f s [] i fault → fault ≡ lowest f (insides type.Node s)
+  unfolding lowest_from
+  all_scanned inv = inv.rest

@@ -4,12 +4,13 @@ use mathlib.Core.Path.{◌≡◌, refl, sym, ap, ◌∙◌}
 use mathlib.Core.Bool.{Bool, true, false, cond, not}
 use mathlib.Core.List.{List, map}
 use mathlib.Core.Option.{some}
-use Prim.Native.Nat.{ℕ, ◌≤◌, ◌<◌, min}
+use Prim.Native.Nat.{ℕ, ◌≤◌, min}
 use native.Mathlib.Nat.{min_comm, min-eq_left}
 use native.Mathlib.Omega.{arith}
 use borrow.Author.Tests.{le-ltb}
 use lib.Dec.{eqb}
 use lib.ListN.{length, get_elem?, length-map}
+use Rattle.std.specs.Prelude.{Option as Answer}
 use Rattle.tlv.specs.Lists.{each, twice}
 use Rattle.lvs_spec.specs.Limits.{max_nodes}
 use Rattle.lvs_spec.specs.Model.{Model, Node, PatternEdge, Symbol, Constraint, ConstraintOption, Term, Call, Argument}
@@ -20,7 +21,7 @@ use Rattle.lvs_rules.specs.Lowest.{constraint_rule}
 use Rattle.lvs_rules.specs.Lowest.{parent_index, named_rule, own_rule, root_rule, destination_rule, destinations_rule, pattern_edge_rule}
 use Rattle.lvs_rules.specs.Lowest.{node_rule, symbol_rule}
 use Rattle.lvs_rules.proofs.Least.{min_assoc, min_swap, least_same, least_append, least_both, least_map, least_each}
-use Rattle.lvs_rules.proofs.ParentWords.{root_is, destination_is}
+use Rattle.lvs_rules.proofs.ParentTable.{root_is, destination_is}
 use Rattle.lvs_rules.proofs.Rows.{Fits, fitting, first_row, row_most, fails_at, fails_outside, row_node, row_outside}
 
 -- ---- the table
@@ -63,9 +64,9 @@ module _ (m : Model) where
   unfolding named_rule rules broken names_none
   signer_row s = rw (length-map m.nodes parent_index)
 
-  destination_row : {i : ℕ} → i < max_nodes → (d : ℕ) → destination_rule (map parent_index m.nodes) i d ≡ first_row (λ a. a.destination i d) (rules m)
+  destination_row : (i d : ℕ) → destination_rule (map parent_index m.nodes) i d ≡ first_row (λ a. a.destination i d) (rules m)
   unfolding rules broken
-  destination_row small d = destination_is m small d
+  destination_row i d = destination_is m i d
 
   start_row : length m.nodes ≤ max_nodes → named_rule 7 (length m.nodes) m.start ≡ first_row (λ a. a.whole) (rules m)
   unfolding named_rule rules broken names_none
@@ -148,7 +149,7 @@ module _ (m : Model) (n : Node) where
       least_both (λ (e : PatternEdge). tag_rule e.tag) (λ (e : PatternEdge). least_of constraint_rule e.constraints) n.pattern_edges ∙
       ap (min _) constraints_are
 
-  parts_are : (start : ℕ) (parents : List ℕ) (i : ℕ)
+  parts_are : (start : ℕ) (parents : List (Answer ℕ)) (i : ℕ)
       → node_rule start parents i n ≡
       min (min (own_rule i n) (min (root_rule parents i start) (broken 14 (twice (destinations n)))))
       (min (least_of tag_rule (node_tags n))
@@ -157,14 +158,14 @@ module _ (m : Model) (n : Node) where
   unfolding node_rule destinations_rule
   parts_are start parents i = rw (patterns_are, tags_are) (simp (min_assoc, min_comm, min_swap))
 
-  pub node_rows : {i : ℕ} → i < max_nodes → get_elem? m.nodes i ≡ some n
+  pub node_rows : (i : ℕ) → get_elem? m.nodes i ≡ some n
       → node_rule m.start (map parent_index m.nodes) i n ≡ first_row (λ a. fails_at a i n) (rules m)
-  node_rows {i} small there =
+  node_rows i there =
       parts_are m.start (map parent_index m.nodes) i ∙
       rw (
         node_row m i n there,
         least_same (tag_row m) (node_tags n),
-        least_same (destination_row m small) (destinations n),
+        least_same (destination_row m i) (destinations n),
         least_same (signer_row m) n.signers,
         least_same (option_row m) (options n),
         least_same (call_row m) (calls n),

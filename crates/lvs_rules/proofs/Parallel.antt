@@ -3,19 +3,19 @@
 use mathlib.Core.Path.{◌≡◌, refl, sym, ap, ◌∙◌}
 use mathlib.Core.Logic.{◌⊎◌, inl, inr, ⊎_elim}
 use mathlib.Core.Bool.{Bool, true, false, cond, ◌||◌, or_comm, or-false, or-true}
-use mathlib.Core.List.{List, [], ◌∷◌, ◌++◌, map, map-append, map-map, append-nil}
-use Prim.Native.Nat.{ℕ, ◌-◌, ◌≤◌, ◌<◌, min}
+use mathlib.Core.List.{List, [], ◌∷◌, ◌++◌, map, map-append, map-map, append-nil, append_assoc}
+use Prim.Native.Nat.{ℕ, ◌≤◌, ◌<◌, min}
 use native.Mathlib.Omega.{arith}
 use borrow.Author.Tests.{ne_eqb, eqb-true, eqb-false, leb-true, leb-false, le-leb}
 use lib.Dec.{leb, eqb}
-use lib.ListN.{length, take, drop, get_or, set, replicate, length-set, length-replicate, get_or-replicate, get_or-eq_default}
+use lib.ListN.{length, get_or, set, replicate, length-set, length-replicate, get_or-replicate, get_or-eq_default}
 use lib.Seq.{set_out, get_or-set_same, get_or-set_other}
 use Rattle.tlv.specs.Element.{Element, Cuts, done, broken as torn, next, cuts}
-use Rattle.tlv.specs.Lists.{when, any, member, twice}
-use Rattle.tlv.specs.Fields.{each_cut, inside_of, insides, the_integer}
-use Rattle.tlv.specs.declared.Place.{Place}
-use Rattle.tlv.proofs.Cuts.{Step}
-use Rattle.tlv.proofs.Gathered.{Stop, over, each_one, each_none, each_stop, any_append, listed, Gathered, started, passed, took, ended}
+use Rattle.std.specs.Prelude.{Option as Answer}
+use Rattle.tlv.specs.Lists.{each, when, any, member, twice}
+use Rattle.tlv.specs.Fields.{each_cut, inside_of, insides, elements, the_integer}
+use Rattle.tlv.proofs.Fields.{each_listed}
+use Rattle.tlv.proofs.Gathered.{over, any_append}
 use Rattle.lvs_spec.specs.Limits.{max_nodes}
 use Rattle.lvs_spec.specs.Types as type
 use Rattle.lvs_spec.specs.Model.{Edge, destination, edges, value_edge_of, pattern_edge_of, node_of}
@@ -125,7 +125,7 @@ by_kind b =
       map-map (λ e. destination (Edge.pattern e)) pattern_edge_of (insides type.PatternEdge b),
     )
 
-in_file_order : (parents : List ℕ) (i : ℕ) (b : List ℕ)
+in_file_order : (parents : List (Answer ℕ)) (i : ℕ) (b : List ℕ)
     → destinations_rule parents i (over destination_from b) ≡ destinations_rule parents i (destinations (node_of b))
 unfolding destinations_rule insides
 in_file_order parents i b =
@@ -147,7 +147,7 @@ twice_more ds d = twice_among ds d [] ∙ rw (append-nil ds) (or_comm (member d 
 member_more : (e : ℕ) (ds : List ℕ) (d : ℕ) → member e (ds ++ (d ∷ [])) ≡ member e ds || eqb e d
 member_more e ds d = any_append (eqb e) ds (d ∷ []) ∙ rw (or-false (eqb e d))
 
-module _ (parents : List ℕ) (i : ℕ) where
+module _ (parents : List (Answer ℕ)) (i : ℕ) where
   destinations_more : (ds : List ℕ) (d : ℕ)
       → destinations_rule parents i (ds ++ (d ∷ [])) ≡ min (destinations_rule parents i ds) (min (destination_rule parents i d) (broken 14 (member d ds)))
   unfolding destinations_rule
@@ -171,30 +171,31 @@ module _ (seen : List Bool) (d : ℕ) where
 
 -- ---- the loop over them
 
--- the edges before the place lead to ds: `rule` is the lowest that these break, and `seen` has those that may name a Node
-pub record Led (parents : List ℕ) (i : ℕ) (s : List ℕ) (at rule : ℕ) (seen : List Bool) : Type 0 where
+-- the edges before these lead to ds: `rule` is the lowest that these break, and `seen` has those that may name a Node
+pub record Led (parents : List (Answer ℕ)) (i : ℕ) (s : List ℕ) (es : List Element) (rule : ℕ) (seen : List Bool) : Type 0 where
   pub ds : List ℕ
-  pub before : Gathered listed (over destination_from) s at ds
+  pub before : ds ++ each destination_from es ≡ each destination_from (elements s)
   pub rule_is : rule ≡ destinations_rule parents i ds
   pub size : length seen ≡ max_nodes
   pub kept : (d : ℕ) → d < max_nodes → get_or seen d false ≡ member d ds
 
-module _ {parents : List ℕ} {i : ℕ} {s : List ℕ} where
-  pub none_led : {seen : List Bool} → seen ≡ replicate max_nodes false → Led parents i s 0 no_rule seen
+module _ {parents : List (Answer ℕ)} {i : ℕ} {s : List ℕ} where
+  pub none_led : {seen : List Bool} → seen ≡ replicate max_nodes false → Led parents i s (elements s) no_rule seen
   unfolding destinations_rule least_of broken
   none_led e =
       record {
         ds = [];
-        before = started;
+        before = refl;
         rule_is = refl;
         size = ap length e ∙ length-replicate max_nodes false;
         kept = λ d l. ap (λ (x : List Bool). get_or x d false) e ∙ get_or-replicate max_nodes d false false l;
       }
 
-  module _ {at rule : ℕ} {seen : List Bool} (inv : Led parents i s at rule seen) where
-    pub led_end : Stop s at → rule ≡ destinations_rule parents i (destinations (node_of s))
-    led_end st = inv.rule_is ∙ ap (destinations_rule parents i) (ended inv.before (each_stop destination_from st)) ∙ in_file_order parents i s
+  pub led_end : {rule : ℕ} {seen : List Bool} → Led parents i s [] rule seen → rule ≡ destinations_rule parents i (destinations (node_of s))
+  led_end inv =
+      inv.rule_is ∙ ap (destinations_rule parents i) (sym (append-nil inv.ds) ∙ inv.before ∙ sym (each_listed destination_from s)) ∙ in_file_order parents i s
 
+  module _ {e : Element} {es : List Element} {rule : ℕ} {seen : List Bool} (inv : Led parents i s (e ∷ es) rule seen) where
     -- the rules of one more; one that names no Node is not kept in `seen`, and breaks rule 8, which is lower than 14
     one_rule : length parents ≤ max_nodes → (d : ℕ) → min (destination_rule parents i d) (broken 14 (get_or seen d false)) ≡
         min (destination_rule parents i d) (broken 14 (member d inv.ds))
@@ -222,25 +223,24 @@ module _ {parents : List ℕ} {i : ℕ} {s : List ℕ} where
             rw (member_more e inv.ds d, q, or-true (member e inv.ds), same) (get_or-set_same seen d true false (omega arith))
         go false q = rw (member_more e inv.ds d, q, or-false (member e inv.ds)) (get_or-set_other seen d e true false (eqb-false e d q) ∙ inv.kept e l)
 
-    module _ {t start stop : ℕ} {n : Place} (st : Step s at t start stop n) where
-      pub led_past : (IsEdge t → ⊥) → Led parents i s n.at rule seen
-      led_past no' =
-          record {
-            ds = inv.ds;
-            before = passed inv.before (each_none destination_from st (no_destination _ no'));
-            rule_is = inv.rule_is;
-            size = inv.size;
-            kept = inv.kept;
-          }
+    pub led_past : (IsEdge e.type → ⊥) → Led parents i s es rule seen
+    led_past no' =
+        record {
+          ds = inv.ds;
+          before = rw (no_destination {t = e.type} e.inside no') at inv.before;
+          rule_is = inv.rule_is;
+          size = inv.size;
+          kept = inv.kept;
+        }
 
-      pub led_more : length parents ≤ max_nodes → IsEdge t → {d own again x rule' : ℕ} {seen' : List Bool} → d ≡ to (take (stop - start) (drop start s))
-          → own ≡ destination_rule parents i d → Noted seen d again seen' → x ≡ min own again
-          → rule' ≡ min rule x → Led parents i s n.at rule' seen'
-      led_more few h {d} f o w x r =
-          record {
-            ds = inv.ds ++ (d ∷ []);
-            before = took inv.before (each_one destination_from st (a_destination _ h)) (rw f);
-            rule_is = r ∙ rw (x, o, w.rule, inv.rule_is, one_rule few d) (sym (destinations_more parents i inv.ds d));
-            size = ap length w.kept ∙ length-set seen d true ∙ inv.size;
-            kept = λ e l. ap (λ (x : List Bool). get_or x e false) w.kept ∙ one_kept d e l;
-          }
+    pub led_more : length parents ≤ max_nodes → IsEdge e.type → {d own again x rule' : ℕ} {seen' : List Bool} → d ≡ to e.inside
+        → own ≡ destination_rule parents i d → Noted seen d again seen' → x ≡ min own again
+        → rule' ≡ min rule x → Led parents i s es rule' seen'
+    led_more few h {d} f o w x r =
+        record {
+          ds = inv.ds ++ (d ∷ []);
+          before = append_assoc inv.ds (d ∷ []) _ ∙ rw f (rw (a_destination {t = e.type} e.inside h) at inv.before);
+          rule_is = r ∙ rw (x, o, w.rule, inv.rule_is, one_rule few d) (sym (destinations_more parents i inv.ds d));
+          size = ap length w.kept ∙ length-set seen d true ∙ inv.size;
+          kept = λ e l. ap (λ (x : List Bool). get_or x e false) w.kept ∙ one_kept d e l;
+        }

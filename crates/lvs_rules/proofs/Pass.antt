@@ -16,8 +16,7 @@ use Rattle.lvs_spec.specs.Model.{Model, Node, Symbol}
 use Rattle.lvs_spec.specs.Verdict.{Test, whole, some_tag, some_node, some_destination, some_signer, some_option, some_call, Verdict, refused, fault, decide}
 use Rattle.lvs_spec.specs.Verdict.{somewhere, first_fault, tags, node_tags, destinations, options, calls}
 use Rattle.lvs_rules.specs.Lowest.{no_rule}
-use Rattle.lvs_rules.specs.Faults.{earlier, lowest_from, no_fault, lowest, named, verdict_of}
-use Rattle.lvs_rules.specs.declared.Fault.{Fault}
+use Rattle.lvs_rules.specs.Faults.{Fault, earlier, lowest_from, no_fault, lowest, named, verdict_of}
 use Rattle.lvs_rules.proofs.Rows.{asks, Row, Fits, no_row, row, first_row, row_least, fits_most, fails_at, fails_outside}
 
 -- ---- one pass over the Nodes, and a pass for each rule

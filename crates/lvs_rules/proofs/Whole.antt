@@ -4,16 +4,14 @@ use mathlib.Core.List.{List, [], ◌∷◌, map, map-map}
 use Prim.Native.Nat.{ℕ, suc, ◌≤◌, ◌<◌, min}
 use native.Mathlib.Omega.{arith}
 use lib.ListN.{length, take, length-map}
+use Rattle.std.specs.Prelude.{Option as Answer}
 use Rattle.lvs_spec.specs.Limits.{max_nodes}
 use Rattle.lvs_spec.specs.Types as type
 use Rattle.tlv.specs.Fields.{insides, the_integer}
 use Rattle.lvs_spec.specs.Model.{node_of, symbol_of, model_of}
 use Rattle.lvs_spec.specs.Verdict.{Verdict, refused, judge}
-use Rattle.lvs_rules.specs.Lowest.{least_of, named_rule, node_rule, parent_index, symbol_rule}
-use Rattle.lvs_rules.specs.Sorts.{type_of, item_rule}
-use Rattle.lvs_rules.specs.Faults.{earlier, lowest_from, no_fault, lowest, verdict_of}
-use Rattle.lvs_rules.specs.declared.Fault.{Fault}
-use Rattle.lvs_rules.specs.declared.Sort.TheVariants as sort
+use Rattle.lvs_rules.specs.Lowest.{least_of, named_rule, node_rule, parent_index, symbol_rule, tag_rule}
+use Rattle.lvs_rules.specs.Faults.{Fault, earlier, lowest_from, no_fault, lowest, verdict_of}
 use Rattle.lvs_rules.proofs.Least.{least_map}
 use Rattle.lvs_rules.proofs.Verdict.{judge_few, judge_many}
 
@@ -31,7 +29,7 @@ module _ (s : List ℕ) {n : ℕ} (count : n ≡ length (insides type.Node s)) w
   pub too_many : max_nodes < n → refused 4 0 ≡ judge (model_of s)
   too_many h = let e = node_count in sym (judge_many (model_of s) (omega arith))
 
-  module _ (all : List ℕ) (filled : take (length (insides type.Node s)) all ≡ map (λ b. parent_index (node_of b)) (insides type.Node s)) where
+  module _ (all : List (Answer ℕ)) (filled : take (length (insides type.Node s)) all ≡ map (λ b. parent_index (node_of b)) (insides type.Node s)) where
     pub as_many : n ≡ length (take n all)
     as_many = rw (count, filled, length-map)
 
@@ -47,8 +45,8 @@ module _ (s : List ℕ) {n : ℕ} (count : n ≡ length (insides type.Node s)) w
     unfolding model_of lowest
     nodes_fault start = lowest_map (node_rule start (take n all)) node_of no_fault 0 (insides type.Node s)
 
-    symbols_rule : least_of symbol_rule (model_of s).symbols ≡ least_of (item_rule n sort.Symbol) (insides (type_of sort.Symbol) s)
-    unfolding model_of item_rule type_of
+    symbols_rule : least_of symbol_rule (model_of s).symbols ≡ least_of (λ b. tag_rule (the_integer type.Tag b)) (insides type.TagSymbol s)
+    unfolding model_of symbol_rule symbol_of
     symbols_rule = least_map symbol_rule symbol_of (insides type.TagSymbol s)
 
     start_is : (model_of s).start ≡ the_integer type.NodeId s
@@ -57,7 +55,7 @@ module _ (s : List ℕ) {n : ℕ} (count : n ≡ length (insides type.Node s)) w
 
     pub found : {start symbols named whole : ℕ} {fault : Fault} {v : Verdict} → n ≤ max_nodes → start ≡ the_integer type.NodeId s
         → fault ≡ lowest (λ i b. node_rule start (take n all) i (node_of b)) (insides type.Node s)
-        → symbols ≡ least_of (item_rule n sort.Symbol) (insides (type_of sort.Symbol) s)
+        → symbols ≡ least_of (λ b. tag_rule (the_integer type.Tag b)) (insides type.TagSymbol s)
         → named ≡ named_rule 7 n start → whole ≡ min symbols named → v ≡ verdict_of fault whole n
         → v ≡ judge (model_of s)
     found {start} few a f g h w e =

@@ -1,14 +1,23 @@
 -- The lowest rule that Nodes break, with the first Node that breaks it; and what the answers say.
-use Rattle.std.specs.Prelude.{ℕ, suc, cond, List, [], ◌∷◌, ltb, eqb}
+use Rattle.std.specs.Prelude.{ℕ, suc, cond, List, [], ◌∷◌, ltb, eqb, Result, Ok, Err}
+use Rattle.lvs_spec.specs.Refusals.{refusal_of}
+use Rattle.lvs_spec.specs.declared.refusal.Refusal.{Refusal}
 use Rattle.lvs_spec.specs.Verdict.{Verdict, accepted, refused}
 use Rattle.lvs_rules.specs.Lowest.{no_rule}
-use Rattle.lvs_rules.specs.declared.Fault.{Fault}
-use Rattle.lvs_rules.specs.declared.Judged.{Judged}
-use Rattle.lvs_rules.specs.declared.Judged.TheVariants.{Accepted, Refused}
+use Rattle.lvs_rules.specs.Broken.{number}
+use Rattle.lvs_rules.specs.declared.Fault as code
 
-abbrev pub judged_of : Judged → Verdict
-judged_of (Accepted n) = accepted n
-judged_of (Refused r i) = refused r i
+abbrev pub judged_of : Result ℕ Refusal → Verdict
+judged_of (Ok n) = accepted n
+judged_of (Err r) = refused (refusal_of r).number (refusal_of r).at
+
+-- a rule, or none, and the index of the first Node that breaks it
+pub record Fault : Type 0 where
+  pub rule : ℕ
+  pub node : ℕ
+
+abbrev pub fault_of : code.Fault → Fault
+fault_of fault = record { rule = number fault.rule; node = fault.node }
 
 -- the one of the lower rule; of two with the same rule the first
 unfoldable pub earlier : Fault → Fault → Fault

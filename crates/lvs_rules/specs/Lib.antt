@@ -1,3 +1,3 @@
 pub mod Lowest
-pub mod Sorts
+pub mod Broken
 pub mod Faults

@@ -1,12 +1,12 @@
 -- The lowest rule that a part of a Model breaks, for each part; no_rule where it breaks none. Definitions only.
-use Rattle.std.specs.Prelude.{ℕ, ◌+◌, min, Bool, true, false, cond, ◌&&◌, not, ◌≡◌, List, [], ◌∷◌, leb, ltb, eqb, length, get_or, set}
+use Rattle.std.specs.Prelude.{ℕ, min, Bool, true, false, cond, ◌&&◌, not, ◌≡◌, List, [], ◌∷◌, leb, eqb, length, get_or, set, is_some}
+use Rattle.std.specs.Prelude.{Option as Answer, Some, None}
 use Rattle.std.proofs.Math.Option.{Option, none, some}
 use Rattle.tlv.specs.Lists.{twice}
-use Rattle.lvs_spec.specs.Limits.{max_nodes}
 use Rattle.lvs_spec.specs.Model.{Argument, Call, Term, ConstraintOption, Constraint, PatternEdge, Node, Symbol}
 use Rattle.lvs_spec.specs.Verdict.{bad_tag, bad_call, destinations}
 
--- the largest number that the code's words hold; that the rules' numbers stay below it is checked with the table (`table_fits`)
+-- above every rule's number, which is checked with the table (`table_fits`)
 abbrev pub no_rule : ℕ
 no_rule = 4294967295
 
@@ -48,15 +48,12 @@ option_rule o = min (terms_rule o) (least_of term_rule o)
 unfoldable pub constraint_rule : Constraint → ℕ
 constraint_rule c = least_of option_rule c
 
--- a Parent's index; where it names no Node max_nodes, and where there is none the number after that: no Node has either
-abbrev pub no_parent : ℕ
-no_parent = max_nodes + 1
+-- the index that a Node names as its Parent, as the code has it
+abbrev pub parent_from : Option ℕ → Answer ℕ
+parent_from none = None
+parent_from (some p) = Some p
 
-unfoldable pub parent_from : Option ℕ → ℕ
-parent_from none = no_parent
-parent_from (some p) = cond (ltb p max_nodes) p max_nodes
-
-unfoldable pub parent_index : Node → ℕ
+unfoldable pub parent_index : Node → Answer ℕ
 parent_index n = parent_from n.parent
 
 -- of an index that has to name one of n Nodes: rule 7 of StartId, 9 of a signer
@@ -70,15 +67,20 @@ own_rule i n = broken 6 (not (eqb n.id i))
 unfoldable pub pattern_edge_rule : PatternEdge → ℕ
 pattern_edge_rule e = min (tag_rule e.tag) (least_of constraint_rule e.constraints)
 
+-- it is this one
+abbrev pub is_index : ℕ → Answer ℕ → Bool
+is_index i None = false
+is_index i (Some p) = eqb i p
+
 -- `parents` has each Node's Parent, so its length is the number of Nodes; i is the index of the Node at hand
-module _ (parents : List ℕ) (i : ℕ) where
+module _ (parents : List (Answer ℕ)) (i : ℕ) where
   -- of its own Parent
   unfoldable pub root_rule : ℕ → ℕ
-  root_rule start = broken 13 (eqb i start && not (eqb (get_or parents i 0) no_parent))
+  root_rule start = broken 13 (eqb i start && is_some (get_or parents i None))
 
   -- of its edges' destinations
   unfoldable pub destination_rule : ℕ → ℕ
-  destination_rule d = cond (leb (length parents) d) 8 (broken 11 (not (eqb i (get_or parents d 0))))
+  destination_rule d = cond (leb (length parents) d) 8 (broken 11 (not (is_index i (get_or parents d None))))
 
   unfoldable pub destinations_rule : List ℕ → ℕ
   destinations_rule ds = min (least_of destination_rule ds) (broken 14 (twice ds))
@@ -89,7 +91,7 @@ pub record Noted (seen : List Bool) (d r : ℕ) (after : List Bool) : Type 0 whe
   pub rule : r ≡ broken 14 (get_or seen d false)
   pub kept : after ≡ set seen d true
 
-unfoldable pub node_rule : ℕ → List ℕ → ℕ → Node → ℕ
+unfoldable pub node_rule : ℕ → List (Answer ℕ) → ℕ → Node → ℕ
 node_rule start parents i n =
     min (min (own_rule i n) (root_rule parents i start))
     (min (destinations_rule parents i (destinations n))

@@ -1,133 +1,61 @@
 // The rules that ask something of a ConstraintOption or of a call in it: 10 and 12, and 5 of an argument.
-ghost use Rattle.std.specs.Prelude.{◌≡◌, not, eqb, length};
+ghost use Rattle.std.specs.Prelude.{◌≡◌, length};
 ghost use Rattle.lvs_spec.specs.Model.{call_of, option_of, argument_of};
 ghost use Rattle.tlv.specs.Fields.{insides};
-ghost use Rattle.lvs_rules.specs.Lowest.{broken, argument_rule, arguments_rule, terms_rule};
+ghost use Rattle.lvs_rules.specs.Broken.{number};
+ghost use Rattle.lvs_rules.specs.Lowest.{argument_rule, arguments_rule, terms_rule};
 
-use crate::numbers::{NO_RULE, tag_rule};
-use lvs_functions::Function;
+use crate::numbers::tag_rule;
+use lvs_spec::refusal::Rule;
 use lvs_spec::types::{FN_ID, TAG, USER_FN_ARG, USER_FN_CALL, VALUE};
-use tlv::{Place, Read};
+use tlv::Elements;
 
 // Rule 5 of the Tag in an argument; an argument with neither Value nor Tag counts as Tag 0.
-pub(crate) fn argument_rule(b: &[u8]) -> u32
-    ensures { result ≡ argument_rule (argument_of b.now) }
+pub(crate) fn argument_rule(b: &[u8]) -> Option<Rule>
+    ensures { number result ≡ argument_rule (argument_of b.now) }
 {
-    let mut place = Place { at: 0 };
-    loop {
-        match place.element(b) {
-            Read::Found {
-                typ,
-                start,
-                end,
-                next,
-            } => {
-                place = next;
-                if typ == VALUE {
-                    return NO_RULE;
-                }
-                if typ == TAG {
-                    return tag_rule(tlv::number_of(&b[start..end]));
-                }
-            }
-            Read::End => {
-                return tag_rule(0);
-            }
-            Read::Malformed => {
-                return tag_rule(0);
-            }
+    for element in Elements::of(b) {
+        if element.typ == VALUE {
+            return None;
+        }
+        if element.typ == TAG {
+            return tag_rule(tlv::number_of(element.inside));
         }
     }
+    tag_rule(0)
 }
 
-// Rule 12 of a call.
-pub(crate) fn arguments_rule(call: &[u8]) -> u32
-    ensures { result ≡ arguments_rule (call_of call.now) }
+// Rule 12 of a call: a known function, with as many arguments as it takes.
+pub(crate) fn arguments_rule(call: &[u8]) -> Option<Rule>
+    ensures { number result ≡ arguments_rule (call_of call.now) }
 {
-    let part = tlv::inside_of(call, FN_ID);
-    let start = part.start;
-    let end = part.end;
     let n = count_of(call, USER_FN_ARG);
-    match lvs_functions::function_of(&call[start..end]) {
-        Function::Eq => number_rule(n, 1),
-        Function::EqType => number_rule(n, 1),
-        Function::IsValidId => number_rule(n, 0),
-        Function::IsValidYear => number_rule(n, 0),
-        Function::Unknown => 12,
+    match lvs_functions::function_of(tlv::inside_of(call, FN_ID)) {
+        Some(function) => (n != function.arity()).then_some(Rule::Call),
+        None => Some(Rule::Call),
     }
-}
-
-fn number_rule(n: usize, arity: usize) -> u32
-    ensures { result ≡ broken 12 (not (eqb n arity)) }
-{
-    if n == arity { NO_RULE } else { 12 }
 }
 
 // Rule 10 of a ConstraintOption.
-pub(crate) fn terms_rule(b: &[u8]) -> u32
-    ensures { result ≡ terms_rule (option_of b.now) }
+#[tactic(auto, unfolding(crate::specs::Lowest::terms_rule, crate::specs::Lowest::broken))]
+pub(crate) fn terms_rule(b: &[u8]) -> Option<Rule>
+    ensures { number result ≡ terms_rule (option_of b.now) }
 {
-    let n = term_count(b);
-    if n == 1 { NO_RULE } else { 10 }
+    (term_count(b) != 1).then_some(Rule::OneTerm)
 }
 
 // How many Values, Tags and UserFnCalls a ConstraintOption holds.
 fn term_count(b: &[u8]) -> usize
     ensures { result ≡ length (option_of b.now) }
 {
-    let mut n = 0;
-    let mut place = Place { at: 0 };
-    loop {
-        match place.element(b) {
-            Read::Found {
-                typ,
-                start: _,
-                end: _,
-                next,
-            } => {
-                place = next;
-                match typ {
-                    VALUE | TAG | USER_FN_CALL => {
-                        n += 1;
-                    }
-                    _ => {}
-                }
-            }
-            Read::End => {
-                return n;
-            }
-            Read::Malformed => {
-                return n;
-            }
-        }
-    }
+    Elements::of(b)
+        .filter(|e| e.typ == VALUE || e.typ == TAG || e.typ == USER_FN_CALL)
+        .count()
 }
 
 // How many elements of a type `s` holds.
 pub(crate) fn count_of(s: &[u8], wanted: u32) -> usize
     ensures { result ≡ length (insides wanted s.now) }
 {
-    let mut n = 0;
-    let mut place = Place { at: 0 };
-    loop {
-        match place.element(s) {
-            Read::Found {
-                typ,
-                start: _,
-                end: _,
-                next,
-            } => {
-                place = next;
-                if typ == wanted {
-                    n += 1;
-                }
-            }
-            Read::End => {
-                return n;
-            }
-            Read::Malformed => {
-                return n;
-            }
-        }
-    }
+    Elements::of(s).filter(|e| e.typ == wanted).count()
 }

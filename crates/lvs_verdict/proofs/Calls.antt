@@ -1,24 +1,25 @@
 -- What the definitions come to, by what the callees answered. Assumes nothing.
 use Prim.Native.Nat.{ℕ}
-use mathlib.Core.Path.{◌≡◌, sym, subst, ◌∙◌}
+use mathlib.Core.Path.{◌≡◌, sym, ap, subst, ◌∙◌}
+use Rattle.std.specs.Prelude.{Result, Ok, Err}
 use mathlib.Core.List.{List}
 use Rattle.lvs_spec.specs.Model.{Model, model_of}
 use Rattle.lvs_spec.specs.Verdict.{Verdict, unreadable, describes, reading, judge, verdict}
 use Rattle.lvs_spec.specs.Names.{bad_name, good_name, name_reading, packet_name, key_name}
+use Rattle.lvs_spec.specs.Answers as answers
 use Rattle.lvs_spec.specs.Answers.{plain, bad, good, input_names, inputs_in, inputs}
 use Rattle.lvs_spec.proofs.Names.{good_short}
 use Rattle.lvs_spec.proofs.Usable.{accepted_usable, refused_unusable}
 use Rattle.lvs_names.specs.Rows.{row_from}
-use Rattle.lvs_names.specs.Answers.{first_refusal, NameOf}
-use Rattle.lvs_names.specs.declared.Side.{Side}
-use Rattle.lvs_names.specs.declared.Side.TheVariants.{Packet, Key}
+use Rattle.lvs_spec.specs.Refusals.{first_refusal, refusal_of}
+use Rattle.lvs_spec.specs.declared.refusal.Side.{Side}
+use Rattle.lvs_spec.specs.declared.refusal.Side.TheVariants.{Packet, Key}
+use Rattle.lvs_spec.specs.declared.refusal.Refusal.{Refusal}
+use Rattle.lvs_names.specs.Answers.{NameOf}
 use Rattle.lvs_names.specs.declared.Row.{Row}
-use Rattle.lvs_names.specs.declared.NameRead.{NameRead}
-use Rattle.lvs_names.specs.declared.NameRead.TheVariants.{Good}
-use Rattle.lvs_names.proofs.Read.{read_good, read_count, read_few}
+use Rattle.lvs_names.proofs.Read.{read_plain, read_good, read_count, read_few}
 use Rattle.lvs_verdict.specs.Answers.{RowOf, GoodInputs, InputsOf}
 use Rattle.lvs_verdict.specs.declared.Inputs.{Inputs}
-use Rattle.lvs_verdict.specs.declared.Inputs.TheVariants as answer
 
 -- ---- the verdict
 
@@ -57,12 +58,12 @@ module _ (b packet key : List ℕ) where
       inputs_both k h = named ∙ rw (← good-packet, ← h)
 
 -- a name that was read as this row
-pub row_of : {side : Side} {name : List ℕ} {r : NameRead} {row : Row} → NameOf side name r → r ≡ Good row → RowOf name row
+pub row_of : {side : Side} {name : List ℕ} {r : Result Row Refusal} {row : Row} → NameOf side name r → r ≡ Ok row → RowOf name row
 row_of {side} {name} of e =
     record { short = good_short (first_refusal side) name (sym (read_good of e)); count = read_count of e; few = read_few of e }
 
-pub inputs_good : (b packet key : List ℕ) {n : ℕ} → verdict b ≡ Verdict.accepted n → {r q : NameRead} {p k : Row} → NameOf Packet packet r → r ≡ Good p
-    → NameOf Key key q → q ≡ Good k → GoodInputs b packet key p k
+pub inputs_good : (b packet key : List ℕ) {n : ℕ} → verdict b ≡ Verdict.accepted n → {r q : Result Row Refusal} {p k : Row} → NameOf Packet packet r → r ≡ Ok p
+    → NameOf Key key q → q ≡ Ok k → GoodInputs b packet key p k
 inputs_good b packet key {n} accepted {p = p} {k = k} of_packet e of-key f =
     record {
       is = inputs_both b packet key accepted p.start (read_good of_packet e) k.start (read_good of-key f);
@@ -72,11 +73,17 @@ inputs_good b packet key {n} accepted {p = p} {k = k} of_packet e of-key f =
       key_row = row_of of-key f;
     }
 
+-- a name that was refused
+pub refused_of : {side : Side} {name : List ℕ} {r : Result Row Refusal} {x : Refusal} {i : answers.Inputs} → NameOf side name r → r ≡ Err x
+    → i ≡ bad (plain (refusal_of x).number) → i ≡ bad (refusal_of x)
+refused_of of e h = h ∙ ap bad (sym (read_plain of e))
+
 -- ---- what `judge_inputs` answered, in the arm where its case is known
 
-pub judged_good : {b packet key : List ℕ} {i : Inputs} {p k : Row} → InputsOf b packet key i → i ≡ answer.Good p k → GoodInputs b packet key p k
+pub judged_good : {b packet key : List ℕ} {i : Result Inputs Refusal} {x : Inputs} → InputsOf b packet key i → i ≡ Ok x
+    → GoodInputs b packet key x.packet x.key
 judged_good {b} {packet} {key} of e = subst (InputsOf b packet key) e of
 
-pub judged_bad : (b packet key : List ℕ) {i : Inputs} {r a : ℕ} → InputsOf b packet key i → i ≡ answer.Refused r a
-    → inputs b packet key ≡ bad (record { number = r; at = a })
+pub judged_bad : (b packet key : List ℕ) {i : Result Inputs Refusal} {r : Refusal} → InputsOf b packet key i → i ≡ Err r
+    → inputs b packet key ≡ bad (refusal_of r)
 judged_bad b packet key of e = subst (InputsOf b packet key) e of

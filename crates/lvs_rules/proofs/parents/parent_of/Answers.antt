@@ -1,36 +1,21 @@
 -- `lvs_rules::parents::parent_of` meets its contract. Assumes nothing.
-use Rattle.std.proofs.Common.{arith}
-use Rattle.tlv.specs.Fields.{integers}
-use Rattle.tlv.proofs.Cuts.{seen}
-use Rattle.tlv.proofs.Gathered.{stop_end, stop_malformed, started}
-use Rattle.lvs_rules.proofs.Loops.{parent_first, no_parent_lem, parent_none}
+use Rattle.std.proofs.Common.{◌∙◌, sym, ap}
+use Rattle.tlv.specs.Answers.{elements_left}
+use Rattle.lvs_rules.proofs.Loops.{parent_left, parent_start, parent_first, no_parent}
 use Rattle.lvs_rules.proofs.parents.parent_of.Goals as goal
 
-pub loop-typ-init : goal.loop-typ-init
-unfolding integers
-loop-typ-init c = started
+pub loop-element-init : goal.loop-element-init
+loop-element-init c =
+    ap parent_left (ap elements_left c.into_iter-element-iterator.ensures.into_iter_gives ∙ c.of-element-items.ensures.left) ∙ parent_start _
 
-pub slice_bounds-number_of-count : goal.slice_bounds-number_of-count
-slice_bounds-number_of-count c = omega (arith, seen _ _ c.element.ensures c.in-Found.is)
+pub returns-then-element-eq-PARENT : goal.returns-then-element-eq-PARENT
+returns-then-element-eq-PARENT c =
+    rw c.number_of.ensures
+    (sym (parent_first _ _ c.if-element-eq-PARENT.true) ∙ sym (ap parent_left c.in-Some.ensures.steps) ∙ c.loop-element.invariant)
 
-pub slice_bounds-number_of-start : goal.slice_bounds-number_of-start
-slice_bounds-number_of-start c = omega (arith, seen _ _ c.element.ensures c.in-Found.is)
+pub loop-element-preserved : goal.loop-element-preserved
+loop-element-preserved c =
+    sym (no_parent _ _ c.if-element-eq-PARENT.false) ∙ sym (ap parent_left c.in-Some.ensures.steps) ∙ c.loop-element.invariant
 
-pub slice_bounds-number_of-end : goal.slice_bounds-number_of-end
-slice_bounds-number_of-end c = omega (arith, seen _ _ c.element.ensures c.in-Found.is)
-
-pub returns-then-typ-eq-PARENT : goal.returns-then-typ-eq-PARENT
-returns-then-typ-eq-PARENT c =
-    parent_first c.loop-typ.invariant (seen _ _ c.element.ensures c.in-Found.is) c.if-typ-eq-PARENT.true c.number_of.ensures c.index_of.ensures
-
-pub loop-typ-smaller : goal.loop-typ-smaller
-loop-typ-smaller c = omega (arith, seen _ _ c.element.ensures c.in-Found.is)
-
-pub loop-typ-preserved : goal.loop-typ-preserved
-loop-typ-preserved c = no_parent_lem c.loop-typ.invariant (seen _ _ c.element.ensures c.in-Found.is) c.if-typ-eq-PARENT.false
-
-pub returns-in-End : goal.returns-in-End
-returns-in-End c = parent_none c.loop-typ.invariant (stop_end _ _ c.element.ensures c.in-End.is)
-
-pub returns-in-Malformed : goal.returns-in-Malformed
-returns-in-Malformed c = parent_none c.loop-typ.invariant (stop_malformed _ _ c.element.ensures c.in-Malformed.is)
+pub returns : goal.returns
+returns c = sym (ap parent_left c.in-None.ensures.steps.0) ∙ c.loop-element.invariant
