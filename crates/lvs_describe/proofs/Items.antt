@@ -19,8 +19,8 @@ use Rattle.lvs_description.specs.Format.{Lists, Format, integer, text, many, wit
 use Rattle.lvs_description.specs.Description.{argument, term, option, constraint, value_edge, pattern_edge, node, symbol}
 use Rattle.lvs_describe.specs.Parts.{shown, row}
 use Rattle.lvs_describe.specs.Sorts.{is_term, is_of, term_of, item_of, item_from, items_of, row_of}
-use Rattle.lvs_describe.specs.declared.Sort.{Sort}
-use Rattle.lvs_describe.specs.declared.Sort.TheVariants as sort
+use Rattle.lvs_describe.specs.declared.rows.Sort.{Sort}
+use Rattle.lvs_describe.specs.declared.rows.Sort.TheVariants as sort
 use Rattle.lvs_describe.proofs.Appended.{Appended, row_shown, integer_appended, text_appended, within_appended, argument_appended, term_appended}
 use Rattle.lvs_describe.proofs.Appended.{option_appended, constraint_appended, value_edge_appended, pattern_edge_appended, node_appended, symbol_appended}
 
