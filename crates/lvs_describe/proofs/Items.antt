@@ -14,7 +14,7 @@ use Rattle.tlv.specs.Fields.{each_cut, inside_of, insides, number_of, integers, 
 use Rattle.lvs_spec.specs.Types as type
 use Rattle.lvs_spec.specs.Leaves.{marked}
 use Rattle.lvs_spec.specs.Model.{argument_of, term_from, option_of, constraint_of, value_edge_of, pattern_edge_of, node_of, symbol_of}
-use Rattle.lvs_spec.proofs.Lists.{eqb_sym}
+use Rattle.tlv.proofs.Iterated.{eqb_sym}
 use Rattle.lvs_description.specs.Format.{Lists, Format, integer, text, many, within}
 use Rattle.lvs_description.specs.Description.{argument, term, option, constraint, value_edge, pattern_edge, node, symbol}
 use Rattle.lvs_describe.specs.Parts.{shown, row}
