@@ -244,7 +244,8 @@ pub record Rewritten (b : List ℕ) (r : Result ℕ Refusal) (after : List ℕ) 
 
 -- it is written, where there is as much room as the model has
 pub described_again : {b ns ts numbers texts before after : List ℕ} {n t : ℕ} {r : Result ℕ Refusal} → Bytes b
-    → Described b ns ts (Ok (record { numbers = n; texts = t })) numbers texts → Wrote (take n numbers) (take t texts) before r after → length b ≤ length before
+    → Described b ns ts (Ok (record { numbers = n; texts = t })) numbers texts → Wrote (take n numbers) (take t texts) before r after
+    → length b ≤ length before
     → Rewritten b r after
 described_again {b} {before = before} {r = r} by c w room =
     let d = described_by c in

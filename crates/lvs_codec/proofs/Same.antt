@@ -131,6 +131,7 @@ refusing (Err x) e = (x, refl, cc)
 no_list_refusal : {n t : ℕ} {y : Numbered} → Describing.described n t ≡ Describing.refused y → ⊥
 no_list_refusal p = let z : ◌≡◌ {A = ℕ} 0 1 = cc in omega arith
 
-pub refusing_list : (r : Result Lengths Refusal) {y : Numbered} → describe_answer_of r ≡ Describing.refused y → (x : Refusal) × (r ≡ Err x) × (refusal_of x ≡ y)
+pub refusing_list : (r : Result Lengths Refusal) {y : Numbered} → describe_answer_of r ≡ Describing.refused y
+    → (x : Refusal) × (r ≡ Err x) × (refusal_of x ≡ y)
 refusing_list (Ok l) e = absurd (no_list_refusal e)
 refusing_list (Err x) e = (x, refl, cc)
