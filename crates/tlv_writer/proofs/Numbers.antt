@@ -1,78 +1,66 @@
--- The bytes that spell a number, stored: a width is two halves, and a type or a length is a mark and a width. Assumes nothing.
+-- The bytes that spell a number, stored: the last of the library's, and a type or a length is a mark and a width. Assumes nothing.
 use mathlib.Core.Path.{◌≡◌, refl, sym, ap, subst, ◌∙◌}
-use mathlib.Core.Bool.{Bool, true, false, cond}
-use mathlib.Core.List.{List, [], ◌∷◌, ◌++◌}
-use Prim.Native.Nat.{ℕ, ◌+◌, ◌-◌, ◌/◌, ◌%◌, ◌^◌, ◌≤◌, ◌<◌}
-use native.Mathlib.Nat.{mod-lt, div-one, div-add-mod', div-lt_iff_lt-mul}
+use mathlib.Core.Bool.{Bool, true, false, cond, ◌||◌}
+use mathlib.Core.List.{List, [], ◌∷◌}
+use Prim.Native.Nat.{ℕ, zero, suc, ◌+◌, ◌-◌, ◌*◌, ◌/◌, ◌%◌, ◌^◌, ◌≤◌, ◌<◌}
+use native.Mathlib.Nat.{mod-lt, mod-eq_of_lt, div-one, pow-suc, mul_comm}
 use native.Mathlib.Numerals.{add-one}
+use lib.Arith.{mod-mul, digits_div, digits_mod}
+use borrow.Rule.Slice.PartMut.{put_mid}
+use Rattle.std.specs.Int.{bytes_high_first, byte_at}
 use native.Mathlib.Omega.{arith}
-use borrow.Author.Tests.{lt-ltb, le-ltb, ltb-true, ltb-false}
-use lib.Dec.{ltb, lit≤}
-use lib.Pow.{pow-add}
-use lib.ListN.{length, set, length-append, length-set}
+use borrow.Author.Tests.{lt-ltb, le-ltb, ltb-true, ltb-false, eqb-true}
+use lib.Dec.{ltb, eqb, lit≤}
+use lib.ListN.{length, set, take, drop, length-set}
 use lib.Seq.{sets}
-use Rattle.tlv.specs.Bytes.{Bytes, big_endian, big_endian_bytes}
+use Rattle.tlv.specs.Bytes.{big_endian_bytes}
 use Rattle.tlv.specs.Number.{number_bytes, mark, width, integer_size}
-use Rattle.tlv.proofs.Bytes.{pow_pos, bytes_append, bytes_spelled, length-spelled, big_spelled, spelled_big, big_append}
+use Rattle.tlv.proofs.Bytes.{pow_pos, length-spelled}
 use Rattle.tlv_writer.specs.Stored.{Stored, Digits}
-use Rattle.tlv_writer.proofs.Stores.{stored_front}
+use Rattle.tlv_writer.proofs.Stores.{stored_part}
 
--- ---- two halves
+-- ---- the last of the bytes that the library spells a number in
 
-spelled_halves : (w v n : ℕ) → n < 256 ^ (w + v) → big_endian_bytes w (n / 256 ^ v) ++ big_endian_bytes v (n % 256 ^ v) ≡ big_endian_bytes (w + v) n
-spelled_halves w v n h =
-    let high = big_endian_bytes w (n / 256 ^ v) in
-    let low = big_endian_bytes v (n % 256 ^ v) in
-    let top : n / 256 ^ v < 256 ^ w = (div-lt_iff_lt-mul (pow_pos v)).1 (rw (pow-add 256 w v) at h) in
-    let end : n % 256 ^ v < 256 ^ v = mod-lt n (pow_pos v) in
-    let bytes : Bytes (high ++ low) = bytes_append high low (bytes_spelled w _ top) (bytes_spelled v _ end) in
-    let long : length (high ++ low) ≡ w + v =
-    length-append high low ∙ (λ i. length-spelled w (n / 256 ^ v) i + length-spelled v (n % 256 ^ v) i) in
-    let is : big_endian (high ++ low) ≡ n =
-    big_append high low ∙ rw (big_spelled w _ top, big_spelled v _ end, length-spelled v (n % 256 ^ v)) (div-add-mod' n (256 ^ v)) in
-    sym (spelled_big (high ++ low) bytes) ∙ (λ i. big_endian_bytes (long i) (is i))
-
--- ---- from the last byte to the first
-
--- `high` is still to be spelled, in front of i: that gives the whole
-pub record Spelling (before now : List ℕ) (at w n i high : ℕ) : Type 0 where
-  pub low : at ≤ i
-  pub small : high < 256 ^ (i - at)
-  pub rest : (after : List ℕ) → Stored now after at (big_endian_bytes (i - at) high) → Stored before after at (big_endian_bytes w n)
-
-pub spelling_first : {at w n room : ℕ} (b : List ℕ) → Digits at w n room → Spelling b b at w n (at + w) n
-spelling_first {at} {w} {n} b D =
-    let all : w ≡ at + w - at = omega arith in
-    record {
-      low = omega arith;
-      small = subst (λ (k : ℕ). n < 256 ^ k) all D.small;
-      rest = λ after P. subst (λ (k : ℕ). Stored b after at (big_endian_bytes k n)) (sym all) P;
-    }
-
-pub spelling_more : {before now : List ℕ} {at w n high i : ℕ} → Spelling before now at w n i high → at < i
-    → Spelling before (set now (i - 1) (high % 256)) at w n (i - 1) (high / 256)
+-- the library's bytes, one after the other
+high_first_is : (w n : ℕ) → bytes_high_first w n ≡ big_endian_bytes w (n % 256 ^ w)
 unfolding big_endian_bytes
-spelling_more {before} {now} {at} {w} {n} {high} {i} S h =
-    let one : i - at ≡ i - 1 - at + 1 = omega arith in
-    let small : high < 256 ^ (i - 1 - at + 1) = subst (λ (k : ℕ). high < 256 ^ k) one S.small in
-    record {
-      low = omega arith;
-      small = (div-lt_iff_lt-mul (pow_pos 1)).1 (rw (pow-add 256 (i - 1 - at) 1) at small);
-      rest = λ after P.
-          let last : Stored now (set now (i - 1) (high % 256)) (i - 1) (big_endian_bytes 1 (high % 256 ^ 1)) =
-          record { is = ap (set now (i - 1)) (sym (div-one (high % 256))) } in
-          let place : at + length (big_endian_bytes (i - 1 - at) (high / 256 ^ 1)) ≡ i - 1 = omega (arith, length-spelled (i - 1 - at) (high / 256 ^ 1)) in
-          let both = stored_front last P place in
-          let whole = spelled_halves (i - 1 - at) 1 high small ∙ ap (λ (k : ℕ). big_endian_bytes k high) (sym one) in
-          S.rest after (record { is = both.is ∙ ap (sets now at) whole });
-    }
-
-pub spelling_last : {before now : List ℕ} {at w n high i : ℕ} → Spelling before now at w n i high → i ≤ at → Stored before now at (big_endian_bytes w n)
-unfolding big_endian_bytes
-spelling_last {now = now} {at = at} {high = high} {i = i} S h = S.rest now (go (i - at) (omega arith))
+high_first_is zero n = refl
+high_first_is (suc w) n =
+    let whole : n % 256 ^ suc w ≡ n / 256 ^ w % 256 * 256 ^ w + n % 256 ^ w =
+    ap (λ (k : ℕ). n % k) (pow-suc 256 w ∙ mul_comm (256 ^ w) 256) ∙ mod-mul n {m = 256} {c = 256 ^ w} (omega arith) (pow_pos w) in
+    let low : n % 256 ^ w < 256 ^ w = mod-lt n (pow_pos w) in
+    let first : n % 256 ^ suc w / 256 ^ w ≡ n / 256 ^ w % 256 = ap (λ (k : ℕ). k / 256 ^ w) whole ∙ digits_div (n / 256 ^ w % 256) low in
+    let rest : n % 256 ^ suc w % 256 ^ w ≡ n % 256 ^ w = ap (λ (k : ℕ). k % 256 ^ w) whole ∙ digits_mod (n / 256 ^ w % 256) low in
+    (λ i. (byte_is w n ∙ sym first) i ∷ (high_first_is w n ∙ ap (big_endian_bytes w) (sym rest)) i)
   where
-    go : (k : ℕ) → k ≡ 0 → Stored now now at (big_endian_bytes k high)
-    go k e = rw e (record { is = refl })
+    byte_is : (w n : ℕ) → byte_at w n ≡ n / 256 ^ w % 256
+    byte_is zero n = ap (λ (k : ℕ). k % 256) (sym (div-one n))
+    byte_is (suc w) n = refl
+
+-- what holds of each of the four widths
+by_four : (P : ℕ → Type 0) (w : ℕ) → integer_size w ≡ true → P 1 → P 2 → P 4 → P 8 → P w
+by_four P w e a b c d = go (eqb w 1) (eqb w 2) (eqb w 4) (eqb w 8) refl refl refl refl e
+  where
+    go : (x y z t : Bool) → eqb w 1 ≡ x → eqb w 2 ≡ y → eqb w 4 ≡ z → eqb w 8 ≡ t → (x || (y || (z || t))) ≡ true → P w
+    go true y z t p q r s h = subst P (sym (eqb-true w 1 p)) a
+    go false true z t p q r s h = subst P (sym (eqb-true w 2 q)) b
+    go false false true t p q r s h = subst P (sym (eqb-true w 4 r)) c
+    go false false false true p q r s h = subst P (sym (eqb-true w 8 s)) d
+    go false false false false p q r s h = let z : ◌≡◌ {A = ℕ} 0 1 = cc in absurd (omega arith)
+
+-- the last of its eight
+last_of : (w n : ℕ) → integer_size w ≡ true → take (8 - (8 - w)) (drop (8 - w) (bytes_high_first 8 n)) ≡ bytes_high_first w n
+last_of w n e = by_four (λ (k : ℕ). take (8 - (8 - k)) (drop (8 - k) (bytes_high_first 8 n)) ≡ bytes_high_first k n) w e refl refl refl refl
+
+-- a number that w bytes can spell, from the library's bytes
+pub digits_stored : {b y bytes : List ℕ} {at w n room k : ℕ} → Digits at w n room → room ≡ length b → k ≡ w → bytes ≡ bytes_high_first 8 n
+    → y ≡ take (8 - (8 - w)) (drop (8 - w) bytes) → Stored b (put_mid at k b y) at (big_endian_bytes w n)
+digits_stored {b} {y} {at = at} {w = w} {n = n} {k = k} D r e big is =
+    let same : n % 256 ^ w ≡ n = mod-eq_of_lt D.small in
+    let last : y ≡ bytes_high_first w n = is ∙ ap (λ (l : List ℕ). take (8 - (8 - w)) (drop (8 - w) l)) big ∙ last_of w n D.size in
+    let digits : y ≡ big_endian_bytes w n = last ∙ high_first_is w n ∙ ap (big_endian_bytes w) same in
+    let long : length (big_endian_bytes w n) ≡ w = length-spelled w n in
+    stored_part b at k digits (omega arith) (omega (arith, D.fits))
 
 -- ---- the shortest form of a type or a length
 

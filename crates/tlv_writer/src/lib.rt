@@ -53,11 +53,7 @@ pub fn put_digits(out: &mut [u8], at: usize, w: usize, n: u64)
     requires { Digits at w n (length out.old) }
     ensures { Stored out.old out.new at (big_endian_bytes w n) }
 {
-    let mut high = n;
-    for i in (at..at + w).rev() {
-        out[i] = (high % 256) as u8;
-        high /= 256;
-    }
+    out[at..at + w].copy_from_slice(&n.to_be_bytes()[8 - w..]);
 }
 
 // The bytes of `src`. A layer below, as the others.

@@ -1,9 +1,6 @@
-use Rattle.std.proofs.Common.{arith}
-use Rattle.tlv_writer.proofs.Numbers.{spelling_more, spelling_last}
+use Rattle.std.proofs.Common.{refl, arith}
+use Rattle.tlv_writer.proofs.Numbers.{digits_stored}
 use Rattle.tlv_writer.proofs.put_digits.Goals as goal
 
-pub loop-i-preserved : goal.loop-i-preserved
-loop-i-preserved c = spelling_more c.loop-i.invariant (omega arith)
-
 pub returns : goal.returns
-returns c = spelling_last c.loop-i.invariant (omega arith)
+returns c = digits_stored c.requires refl (omega arith) c.to_be_bytes.ensures c.copy_from_slice.ensures.after
