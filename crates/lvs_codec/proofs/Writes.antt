@@ -16,13 +16,13 @@ use Rattle.lvs_spec.specs.Verdict.{Verdict as Judged, accepted, refused, reading
 use Rattle.lvs_spec.specs.Answers.{plain}
 use Rattle.lvs_spec.proofs.Lists.{clash}
 use Rattle.lvs_verdict.specs.Answers.{verdict_of}
-use Rattle.lvs_verdict.specs.declared.Verdict.{Verdict}
-use Rattle.lvs_verdict.specs.declared.Verdict.TheVariants as verdicts
+use Rattle.lvs_spec.specs.Refusals.{refusal_of}
+use Rattle.lvs_spec.specs.declared.refusal.Refusal.{Refusal}
 use Rattle.lvs_description.specs.Description.{model_bytes, description_of}
 use Rattle.lvs_description.specs.Answers.{WriteOutcome, write_refused, written, write_outcome, no_description, short_output}
 use Rattle.lvs_description.proofs.Calls.{no_description_lem, refused_bytes, short_output_lem, on_output, writing_is}
 use Rattle.lvs_write.specs.Steps.{capped, size_of, Written}
-use Rattle.std.specs.Prelude.{None, Some}
+use Rattle.std.specs.Prelude.{None, Some, Result, Ok, Err}
 use Rattle.lvs_codec.specs.Answers.{Sized}
 
 -- ---- the size
@@ -83,21 +83,21 @@ module _ {ns ts place y : List ℕ} (S : Sized ns ts (length place)) (W : Writte
   bytes_are = filled (W.put S.model S.is (omega (arith, S.size_is, S.small)) (omega (arith, S.size_is))) (sym S.size_is)
 
   -- the verdict on them
-  module _ {v : Verdict} (e : verdict_of v ≡ verdict y) where
-    judged : {w : Verdict} → v ≡ w → verdict (model_bytes S.model) ≡ verdict_of w
+  module _ {v : Result ℕ Refusal} (e : verdict_of v ≡ verdict y) where
+    judged : {w : Result ℕ Refusal} → v ≡ w → verdict (model_bytes S.model) ≡ verdict_of w
     judged f = ap verdict (sym bytes_are) ∙ sym e ∙ ap verdict_of f
 
     -- refuses, whatever the output is;
-    module _ {r i : ℕ} (f : v ≡ verdicts.Refused r i) where
-      pub bytes_refused : (before : List ℕ) → write_refused (record { number = r; at = i }) before ≡ write_outcome ns ts before
+    module _ {x : Refusal} (f : v ≡ Err x) where
+      pub bytes_refused : (before : List ℕ) → write_refused (refusal_of x) before ≡ write_outcome ns ts before
       bytes_refused before = writing_is (refused_bytes S.is (judged f))
 
       -- what stood there was kept, and is put back
-      pub put_back : {kept z : List ℕ} → kept ≡ place → z ≡ kept → write_refused (record { number = r; at = i }) z ≡ write_outcome ns ts place
-      put_back p q = ap (write_refused (record { number = r; at = i })) (q ∙ p) ∙ bytes_refused place
+      pub put_back : {kept z : List ℕ} → kept ≡ place → z ≡ kept → write_refused (refusal_of x) z ≡ write_outcome ns ts place
+      put_back p q = ap (write_refused (refusal_of x)) (q ∙ p) ∙ bytes_refused place
 
     -- or accepts,
-    module _ {k : ℕ} (f : v ≡ verdicts.Accepted k) where
+    module _ {k : ℕ} (f : v ≡ Ok k) where
       -- and an output is too short,
       pub no_room : (before : List ℕ) → length before < length place → write_refused (plain short_output) before ≡ write_outcome ns ts before
       no_room before h = writing_is (short_output_lem S.is (judged f) (omega (arith, S.size_is)))

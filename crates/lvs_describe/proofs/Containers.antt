@@ -12,8 +12,8 @@ use Rattle.tlv.specs.Fields.{each_cut, number_of, integers, the_integer, the_ins
 use Rattle.lvs_spec.specs.Types as type
 use Rattle.lvs_spec.specs.Leaves.{marked}
 use Rattle.lvs_spec.specs.Model.{Argument, component_of, argument_of, call_of, value_edge_of, pattern_edge_of, node_of, symbol_of, model_of}
-use Rattle.lvs_edges.specs.Crossing.{FieldsOf}
-use Rattle.lvs_edges.specs.declared.PatternFields.{PatternFields}
+use Rattle.lvs_edges.specs.Plain.{FieldsOf}
+use Rattle.lvs_edges.specs.declared.fields.PatternFields.{PatternFields}
 use Rattle.lvs_description.specs.Format.{Lists, put, put_text, Format, integer, text, component, ◌then◌, maybe, many}
 use Rattle.lvs_description.specs.Description.{argument, call, value_edge, pattern_edge, node, symbol, lists_of}
 use Rattle.lvs_describe.specs.Parts.{nothing, number, joined, shown, row}
