@@ -1,112 +1,144 @@
-// Standard input, read ahead into a buffer that is lent.
-ghost use Rattle.std.specs.Prelude.{◌≤◌, length};
-ghost use Rattle.io.specs.Counts.{IsPrefixLen};
+//! The cases, read ahead into a buffer on the stack: that of std's `BufReader` would be on the heap.
+ghost use Rattle.std.specs.Prelude.{ℕ, ◌≤◌, ◌<◌};
+ghost use Rattle.std.proofs.Common.{rules};
 
-use crate::{Buffer, STDIN_FILENO};
+use std::io;
+use std::io::Read;
 
-// The bytes of the buffer from at to end are read and not taken yet.
-#[derive(Clone, Copy)]
-pub struct Input {
-    pub at: usize,
-    pub end: usize,
+/// Why a case has no answer: it is cut, or a field is not what the call takes.
+#[derive(Clone, Copy, Debug, PartialEq, Eq)]
+pub struct Broken;
+
+/// A read that fails ends the input.
+impl From<io::Error> for Broken {
+    fn from(_e: io::Error) -> Broken {
+        Broken
+    }
 }
 
-// How many bytes were taken: fewer than asked where the input ends.
-#[derive(Clone, Copy)]
-pub struct Taken {
-    pub count: usize,
-    pub input: Input,
+/// A number of a field, high byte first.
+pub trait Number: Copy {
+    /// How many bytes it has there.
+    const SIZE: usize;
+
+    ghost SIZE: { ℕ };
+
+    fn take<R: Read>(input: &mut CaseReader<R>) -> Result<Self, Broken>;
+
+    ghost has_bytes: { 0 < SIZE };
 }
 
-// The bytes of a case's field at the start of what was lent for it, and whether these are all of it.
-#[derive(Clone, Copy)]
-pub struct Field {
-    pub is_whole: bool,
-    pub count: usize,
-    pub input: Input,
+impl Number for u16 {
+    const SIZE: usize = 2;
+
+    ghost SIZE = { 2 };
+
+    ghost has_bytes = { Prim.search rules };
+
+    fn take<R: Read>(input: &mut CaseReader<R>) -> Result<u16, Broken> {
+        Ok(u16::from_be_bytes(input.array()?))
+    }
 }
 
-// Fills part with the next bytes.
-pub fn take(space: &mut Buffer, from: Input, part: &mut [u8]) -> Taken
-    requires { from.end ≤ 65536 }
-    ensures { (result.count ≤ length part.new) × (result.input.end ≤ 65536) }
-{
-    let mut input = from;
-    let mut count = 0;
-    while count < part.len() {
-        input = read_ahead(space, input);
-        let at = input.at;
-        let end = input.end;
-        if at >= end {
-            return Taken { count, input };
+impl Number for u32 {
+    const SIZE: usize = 4;
+
+    ghost SIZE = { 4 };
+
+    ghost has_bytes = { Prim.search rules };
+
+    fn take<R: Read>(input: &mut CaseReader<R>) -> Result<u32, Broken> {
+        Ok(u32::from_be_bytes(input.array()?))
+    }
+}
+
+impl Number for u64 {
+    const SIZE: usize = 8;
+
+    ghost SIZE = { 8 };
+
+    ghost has_bytes = { Prim.search rules };
+
+    fn take<R: Read>(input: &mut CaseReader<R>) -> Result<u64, Broken> {
+        Ok(u64::from_be_bytes(input.array()?))
+    }
+}
+
+/// The bytes of `ahead` from `at` to `end` are read and not taken yet.
+#[derive(Drop)]
+pub struct CaseReader<R> {
+    source: R,
+    ahead: [u8; 65536],
+    at: usize,
+    end: usize,
+    ghost taken: { at ≤ end },
+    ghost within: { end ≤ 65536 },
+}
+
+impl<R: Read> CaseReader<R> {
+    pub fn new(source: R) -> CaseReader<R> {
+        CaseReader {
+            source,
+            ahead: [0; 65536],
+            at: 0,
+            end: 0,
         }
-        part[count] = space[at];
-        input = Input { at: at + 1, end };
-        count += 1;
     }
-    Taken { count, input }
-}
 
-// Reads once more where everything has been taken; at the end of the input that gives nothing.
-fn read_ahead(space: &mut Buffer, input: Input) -> Input
-    requires { input.end ≤ 65536 }
-    ensures { result.end ≤ 65536 }
-{
-    if input.at < input.end {
-        return input;
+    pub fn letter(&mut self) -> Option<u8> {
+        let [letter]: [u8; 1] = self.array().ok()?;
+        Some(letter)
     }
-    Input {
-        at: 0,
-        end: read_some(space),
-    }
-}
 
-// One read, of as much as fits.
-fn read_some(space: &mut Buffer) -> usize
-    ensures { result ≤ 65536 }
-{
-    io::read_full(STDIN_FILENO, space)
-}
+    /// A field of bytes, at the front of `space`. One that has no room there is broken.
+    pub fn field<'a>(&mut self, space: &'a mut [u8]) -> Result<&'a mut [u8], Broken> {
+        let size = self.size()?;
+        let part = space.get_mut(..size).ok_or(Broken)?;
+        self.read_exact(part)?;
+        Ok(part)
+    }
 
-// Takes a 4-byte length (high byte first) and that many bytes. A length above what part holds is not a whole field.
-pub fn take_field(space: &mut Buffer, input: Input, part: &mut [u8]) -> Field
-    requires { input.end ≤ 65536 }
-    ensures { IsPrefixLen result.count part.new × (result.input.end ≤ 65536) }
-{
-    let mut head = [0u8; 4];
-    let taken = take(space, input, &mut head);
-    let behind = taken.input;
-    if taken.count < 4 {
-        return Field {
-            is_whole: false,
-            count: 0,
-            input: behind,
-        };
+    /// A field of numbers, at the front of `space`. One that ends within a number is broken too.
+    pub fn numbers<'a, T: Number>(&mut self, space: &'a mut [T]) -> Result<&'a mut [T], Broken> {
+        let size = self.size()?;
+        if size % T::SIZE != 0 {
+            return Err(Broken);
+        }
+        let part = space.get_mut(..size / T::SIZE).ok_or(Broken)?;
+        for x in part.iter_mut() {
+            *x = T::take(self)?;
+        }
+        Ok(part)
     }
-    let n = number_of(&head);
-    if n > part.len() {
-        return Field {
-            is_whole: false,
-            count: 0,
-            input: behind,
-        };
+
+    /// How many bytes a field has.
+    fn size(&mut self) -> Result<usize, Broken> {
+        Ok(u32::take(self)? as usize)
     }
-    let inside = take(space, behind, &mut part[..n]);
-    let count = inside.count;
-    let next = inside.input;
-    Field {
-        is_whole: count == n,
-        count,
-        input: next,
+
+    fn array<const N: usize>(&mut self) -> Result<[u8; N], Broken> {
+        // The same as below, and quicker where all bytes are there: most reads are of a number.
+        if let Some(bytes) = self.ahead[self.at..self.end].first_chunk() {
+            let bytes = *bytes;
+            self.at += N;
+            return Ok(bytes);
+        }
+        let mut bytes = [0; N];
+        self.read_exact(&mut bytes)?;
+        Ok(bytes)
     }
 }
 
-fn number_of(head: &[u8; 4]) -> usize {
-    ((wide(head[0]) * 256 + wide(head[1])) * 256 + wide(head[2])) * 256 + wide(head[3])
-}
-
-fn wide(b: u8) -> usize
-    ensures { result ≤ 255 }
-{
-    b as usize
+impl<R: Read> Read for CaseReader<R> {
+    fn read(&mut self, part: &mut [u8]) -> io::Result<usize> {
+        if self.at == self.end {
+            self.at = 0;
+            self.end = 0;
+            self.end = self.source.read(&mut self.ahead)?;
+        }
+        let count = part.len().min(self.end - self.at);
+        part[..count].copy_from_slice(&self.ahead[self.at..self.at + count]);
+        self.at += count;
+        Ok(count)
+    }
 }
