@@ -1,5 +1,5 @@
 //! The cases, read ahead into a buffer on the stack: that of std's `BufReader` would be on the heap.
-ghost use Rattle.std.specs.Prelude.{ℕ, ◌≤◌, ◌<◌};
+ghost use Rattle.std.specs.Prelude.{ℕ, ◌≤◌, ◌<◌, length, IfOk};
 ghost use Rattle.std.proofs.Common.{rules};
 
 use std::io;
@@ -91,7 +91,9 @@ impl<R: Read> CaseReader<R> {
     }
 
     /// A field of bytes, at the front of `space`. One that has no room there is broken.
-    pub fn field<'a>(&mut self, space: &'a mut [u8]) -> Result<&'a mut [u8], Broken> {
+    pub fn field<'a>(&mut self, space: &'a mut [u8]) -> Result<&'a mut [u8], Broken>
+        ensures { IfOk result (λ part. length part.now ≤ length space.old) }
+    {
         let size = self.size()?;
         let part = space.get_mut(..size).ok_or(Broken)?;
         self.read_exact(part)?;
@@ -99,7 +101,9 @@ impl<R: Read> CaseReader<R> {
     }
 
     /// A field of numbers, at the front of `space`. One that ends within a number is broken too.
-    pub fn numbers<'a, T: Number>(&mut self, space: &'a mut [T]) -> Result<&'a mut [T], Broken> {
+    pub fn numbers<'a, T: Number>(&mut self, space: &'a mut [T]) -> Result<&'a mut [T], Broken>
+        ensures { IfOk result (λ part. length part.now ≤ length space.old) }
+    {
         let size = self.size()?;
         if size % T::SIZE != 0 {
             return Err(Broken);

@@ -4,6 +4,8 @@
 //! key name. Each gets one line. Nothing is read ahead, so that an answer is written as soon as its request is complete.
 #![tactic(auto)]
 
+ghost use Rattle.std.specs.Prelude.{◌≤◌, length, IfOk};
+
 use lvs::SignAnswer;
 use lvs_verdict::Verdict;
 use std::fmt::Display;
@@ -60,7 +62,9 @@ fn put_line<P: Print, D: Display + Drop>(rt: &P, line: D) {
 }
 
 /// A file that can't be opened counts as empty.
-fn read_model<'a, R: Files>(rt: &R, space: &'a mut [u8]) -> &'a [u8] {
+fn read_model<'a, R: Files>(rt: &R, space: &'a mut [u8]) -> &'a [u8]
+    ensures { length result.now ≤ length space.old }
+{
     match File::open(rt, "model.lvs") {
         Ok(file) => read_all(file, space),
         Err(_) => &[],
@@ -68,7 +72,9 @@ fn read_model<'a, R: Files>(rt: &R, space: &'a mut [u8]) -> &'a [u8] {
 }
 
 /// As many bytes as the file has and the space holds. A read that fails ends it, like the end of the file.
-fn read_all<'a, R: Read + Drop>(mut file: R, space: &'a mut [u8]) -> &'a [u8] {
+fn read_all<'a, R: Read + Drop>(mut file: R, space: &'a mut [u8]) -> &'a [u8]
+    ensures { length result.now ≤ length space.old }
+{
     let mut done = 0;
     while done < space.len() {
         match file.read(&mut space[done..]) {
