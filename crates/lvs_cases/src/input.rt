@@ -1,6 +1,6 @@
 //! The cases, read ahead into a buffer on the stack: that of std's `BufReader` would be on the heap.
-ghost use Rattle.std.specs.Prelude.{ℕ, ◌≤◌, ◌<◌, length, IfOk};
-ghost use Rattle.std.proofs.Common.{rules};
+ghost use Rattle.std.specs.Prelude.{ℕ, ◌≡◌, ◌-◌, ◌≤◌, ◌<◌, ◌++◌, min, length, take, IfOk, OnOk};
+ghost use Rattle.std.specs.Io.KnownBytes.{Keeps, Consumes, IsAtEnd};
 
 use std::io;
 use std::io::Read;
@@ -16,54 +16,6 @@ impl From<io::Error> for Broken {
     }
 }
 
-/// A number of a field, high byte first.
-pub trait Number: Copy {
-    /// How many bytes it has there.
-    const SIZE: usize;
-
-    ghost SIZE: { ℕ };
-
-    fn take<R: Read>(input: &mut CaseReader<R>) -> Result<Self, Broken>;
-
-    ghost has_bytes: { 0 < SIZE };
-}
-
-impl Number for u16 {
-    const SIZE: usize = 2;
-
-    ghost SIZE = { 2 };
-
-    ghost has_bytes = { Prim.search rules };
-
-    fn take<R: Read>(input: &mut CaseReader<R>) -> Result<u16, Broken> {
-        Ok(u16::from_be_bytes(input.array()?))
-    }
-}
-
-impl Number for u32 {
-    const SIZE: usize = 4;
-
-    ghost SIZE = { 4 };
-
-    ghost has_bytes = { Prim.search rules };
-
-    fn take<R: Read>(input: &mut CaseReader<R>) -> Result<u32, Broken> {
-        Ok(u32::from_be_bytes(input.array()?))
-    }
-}
-
-impl Number for u64 {
-    const SIZE: usize = 8;
-
-    ghost SIZE = { 8 };
-
-    ghost has_bytes = { Prim.search rules };
-
-    fn take<R: Read>(input: &mut CaseReader<R>) -> Result<u64, Broken> {
-        Ok(u64::from_be_bytes(input.array()?))
-    }
-}
-
 /// The bytes of `ahead` from `at` to `end` are read and not taken yet.
 #[derive(Drop)]
 pub struct CaseReader<R> {
@@ -76,6 +28,8 @@ pub struct CaseReader<R> {
 }
 
 impl<R: Read> CaseReader<R> {
+    ghost use Rattle.lvs_cases.specs.Reading.{left};
+
     pub fn new(source: R) -> CaseReader<R> {
         CaseReader {
             source,
@@ -85,64 +39,56 @@ impl<R: Read> CaseReader<R> {
         }
     }
 
-    pub fn letter(&mut self) -> Option<u8> {
-        let [letter]: [u8; 1] = self.array().ok()?;
-        Some(letter)
-    }
-
-    /// A field of bytes, at the front of `space`. One that has no room there is broken.
-    pub fn field<'a>(&mut self, space: &'a mut [u8]) -> Result<&'a mut [u8], Broken>
-        ensures { IfOk result (λ part. length part.now ≤ length space.old) }
+    pub fn array<const N: usize>(&mut self) -> Result<[u8; N], Broken>
+        ensures { IfOk result (λ bytes. Consumes (left R.remaining self.old) (left R.remaining self.new) bytes) }
     {
-        let size = self.size()?;
-        let part = space.get_mut(..size).ok_or(Broken)?;
-        self.read_exact(part)?;
-        Ok(part)
-    }
-
-    /// A field of numbers, at the front of `space`. One that ends within a number is broken too.
-    pub fn numbers<'a, T: Number>(&mut self, space: &'a mut [T]) -> Result<&'a mut [T], Broken>
-        ensures { IfOk result (λ part. length part.now ≤ length space.old) }
-    {
-        let size = self.size()?;
-        if size % T::SIZE != 0 {
-            return Err(Broken);
-        }
-        let part = space.get_mut(..size / T::SIZE).ok_or(Broken)?;
-        for x in part.iter_mut() {
-            *x = T::take(self)?;
-        }
-        Ok(part)
-    }
-
-    /// How many bytes a field has.
-    fn size(&mut self) -> Result<usize, Broken> {
-        Ok(u32::take(self)? as usize)
-    }
-
-    fn array<const N: usize>(&mut self) -> Result<[u8; N], Broken> {
-        // The same as below, and quicker where all bytes are there: most reads are of a number.
-        if let Some(bytes) = self.ahead[self.at..self.end].first_chunk() {
-            let bytes = *bytes;
-            self.at += N;
+        let mut bytes = [0; N];
+        // The same as below, and quicker where all of it is read ahead: most reads are of a number.
+        if N <= self.end - self.at {
+            self.take_ahead(&mut bytes);
             return Ok(bytes);
         }
-        let mut bytes = [0; N];
         self.read_exact(&mut bytes)?;
         Ok(bytes)
     }
 }
 
-impl<R: Read> Read for CaseReader<R> {
-    fn read(&mut self, part: &mut [u8]) -> io::Result<usize> {
+impl<R: Read> CaseReader<R> {
+    ghost use Rattle.lvs_cases.specs.Reading.{ahead_bytes, left};
+
+    /// Reads once more where everything has been taken. At the end of the input that gives nothing.
+    fn fill(&mut self) -> io::Result<()>
+        ensures bytes { Keeps (left R.remaining self.old) (left R.remaining self.new) }
+        ensures end { OnOk result (self.new.end ≤ self.new.at → IsAtEnd (R.remaining self.new.source)) }
+    {
         if self.at == self.end {
             self.at = 0;
             self.end = 0;
             self.end = self.source.read(&mut self.ahead)?;
         }
+        Ok(())
+    }
+
+    /// Takes as many bytes as are read ahead and `part` has room for.
+    fn take_ahead(&mut self, part: &mut [u8]) -> usize
+        ensures count { result ≡ min (self.old.end - self.old.at) (length part.old) }
+        ensures source { self.new.source ≡ self.old.source }
+        ensures bytes { ahead_bytes self.old ≡ take result part.new ++ ahead_bytes self.new }
+    {
         let count = part.len().min(self.end - self.at);
         part[..count].copy_from_slice(&self.ahead[self.at..self.at + count]);
         self.at += count;
-        Ok(count)
+        count
+    }
+}
+
+impl<R: Read> Read for CaseReader<R> {
+    ghost use Rattle.lvs_cases.specs.Reading.{left};
+
+    ghost remaining = { left R.remaining };
+
+    fn read(&mut self, part: &mut [u8]) -> io::Result<usize> {
+        self.fill()?;
+        Ok(self.take_ahead(part))
     }
 }

@@ -22,6 +22,7 @@
 #![tactic(auto)]
 
 mod answers;
+mod fields;
 mod input;
 mod output;
 

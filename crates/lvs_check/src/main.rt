@@ -118,7 +118,9 @@ fn read_request<'a, R: Read>(
 }
 
 /// Reads a length and a name of that many bytes.
-fn read_name<'a, R: Read>(input: &mut R, space: &'a mut NameSpace) -> Result<&'a [u8], Broken> {
+fn read_name<'a, R: Read>(input: &mut R, space: &'a mut NameSpace) -> Result<&'a [u8], Broken>
+    ensures { IfOk result (λ name. length name.now ≤ NAME_BYTES) }
+{
     let mut size = [0; 2];
     input.read_exact(&mut size)?;
     let size = usize::from(u16::from_be_bytes(size));
