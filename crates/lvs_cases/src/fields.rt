@@ -1,5 +1,5 @@
 //! The fields of a case.
-ghost use Rattle.std.specs.Prelude.{ℕ, ◌≤◌, ◌<◌, List, [], ◌∷◌, length, IfOk, IfSome};
+ghost use Rattle.std.specs.Prelude.{ℕ, ◌≡◌, ◌≤◌, ◌<◌, List, [], ◌∷◌, length, IfOk, IfSome, flat_map, refl};
 ghost use Rattle.std.specs.Io.KnownBytes.{Consumes};
 ghost use Rattle.std.specs.Int.{to_be_bytes, w16, w32, w64};
 ghost use Rattle.std.proofs.Common.{rules};
@@ -22,6 +22,8 @@ pub trait Number: Copy {
         ensures { IfOk result (λ n. Consumes (left R.remaining input.old) (left R.remaining input.new) (bytes n)) };
 
     ghost has_bytes: { 0 < SIZE };
+
+    ghost sized: { (n : Self) → length (bytes n) ≡ SIZE };
 }
 
 impl Number for u16 {
@@ -32,6 +34,8 @@ impl Number for u16 {
     ghost has_bytes = { Prim.search rules };
 
     ghost bytes = { to_be_bytes w16 };
+
+    ghost sized = { λ _. refl };
 
     fn take<R: Read>(input: &mut CaseReader<R>) -> Result<u16, Broken> {
         Ok(u16::from_be_bytes(input.array()?))
@@ -47,6 +51,8 @@ impl Number for u32 {
 
     ghost bytes = { to_be_bytes w32 };
 
+    ghost sized = { λ _. refl };
+
     fn take<R: Read>(input: &mut CaseReader<R>) -> Result<u32, Broken> {
         Ok(u32::from_be_bytes(input.array()?))
     }
@@ -60,6 +66,8 @@ impl Number for u64 {
     ghost has_bytes = { Prim.search rules };
 
     ghost bytes = { to_be_bytes w64 };
+
+    ghost sized = { λ _. refl };
 
     fn take<R: Read>(input: &mut CaseReader<R>) -> Result<u64, Broken> {
         Ok(u64::from_be_bytes(input.array()?))
@@ -87,7 +95,8 @@ impl<R: Read> CaseReader<R> {
 
     /// A field of numbers, at the front of `space`. One that ends within a number is broken too.
     pub fn numbers<'a, T: Number>(&mut self, space: &'a mut [T]) -> Result<&'a mut [T], Broken>
-        ensures { IfOk result (λ part. length part.now ≤ length space.old) }
+        ensures room { IfOk result (λ part. length part.now ≤ length space.old) }
+        ensures bytes { IfOk result (λ part. Consumes (left R.remaining self.old) (left R.remaining self.new) (field_of (flat_map T.bytes part.now))) }
     {
         let size = self.size()?;
         if size % T::SIZE != 0 {

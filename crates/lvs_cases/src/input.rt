@@ -30,7 +30,9 @@ pub struct CaseReader<R> {
 impl<R: Read> CaseReader<R> {
     ghost use Rattle.lvs_cases.specs.Reading.{left};
 
-    pub fn new(source: R) -> CaseReader<R> {
+    pub fn new(source: R) -> CaseReader<R>
+        ensures { left R.remaining result ≡ R.remaining source }
+    {
         CaseReader {
             source,
             ahead: [0; 65536],

@@ -1,5 +1,5 @@
 //! The lines, gathered in a buffer on the stack: that of std's `BufWriter` would be on the heap.
-ghost use Rattle.std.specs.Prelude.{◌≤◌};
+ghost use Rattle.std.specs.Prelude.{◌≡◌, ◌+◌, ◌≤◌, ◌++◌, length};
 
 use std::fmt;
 use std::fmt::{Display, Write as _};
@@ -28,27 +28,44 @@ impl<W: Write> AnswerWriter<W> {
     }
 
     /// What can't be written is lost, and the program goes on.
-    pub fn flush(&mut self) {
+    pub fn flush(&mut self)
+        ensures { self.new.used ≡ 0 }
+    {
         let used = self.used;
         self.used = 0;
         let _ = self.to.write_all(&self.gathered[..used]);
     }
 }
 
+impl<W: Write> AnswerWriter<W> {
+    ghost use Rattle.lvs_cases.specs.Gathering.{waiting};
+
+    /// A text for which there is room.
+    fn gather(&mut self, text: &[u8])
+        requires { self.old.used + length text.now ≤ 65536 }
+        ensures bytes { waiting self.new ≡ waiting self.old ++ text.now }
+        ensures to { self.new.to ≡ self.old.to }
+    {
+        let used = self.used + text.len();
+        self.gathered[self.used..used].copy_from_slice(text);
+        self.used = used;
+    }
+}
+
 impl<W: Write> fmt::Write for AnswerWriter<W> {
+    ghost use Rattle.lvs_cases.specs.Gathering.{Gathers};
+
+    ghost write_str_gives = { Gathers };
+
     fn write_str(&mut self, text: &str) -> fmt::Result {
         let text = text.as_bytes();
         if text.len() > self.gathered.len() - self.used {
             self.flush();
         }
-        match self.gathered[self.used..].get_mut(..text.len()) {
-            Some(part) => {
-                part.copy_from_slice(text);
-                self.used += text.len();
-            }
-            None => {
-                let _ = self.to.write_all(text);
-            }
+        if text.len() > self.gathered.len() {
+            let _ = self.to.write_all(text);
+        } else {
+            self.gather(text);
         }
         Ok(())
     }
