@@ -4,6 +4,8 @@
 //! `end`, or `malformed at PLACE` for the place where no element begins. The insides are not read.
 #![tactic(auto)]
 
+ghost use Rattle.std.specs.Prelude.{◌≤◌, length};
+
 use std::fmt::Display;
 use std::io;
 use std::io::Read as _;
@@ -23,7 +25,10 @@ fn main(rt: HostRuntime) {
 }
 
 /// As many bytes as the input has and the space holds. A read that fails ends it, like the end of the input.
-fn read_all<'a, R: io::Read + Drop>(mut input: R, space: &'a mut [u8]) -> &'a [u8] {
+/// Each program has its own: no library may name `std` (tools/axioms.py).
+fn read_all<'a, R: io::Read + Drop>(mut input: R, space: &'a mut [u8]) -> &'a [u8]
+    ensures { length result.now ≤ length space.old }
+{
     let mut done = 0;
     while done < space.len() {
         match input.read(&mut space[done..]) {

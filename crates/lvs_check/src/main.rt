@@ -4,7 +4,10 @@
 //! key name. Each gets one line. Nothing is read ahead, so that an answer is written as soon as its request is complete.
 #![tactic(auto)]
 
-ghost use Rattle.std.specs.Prelude.{◌≤◌, length, IfOk};
+ghost use Rattle.std.specs.Prelude.{◌≤◌, length, IfOk, IfSome, IsTrue};
+ghost use Rattle.std.specs.Int.{to_be_bytes, w16};
+ghost use Rattle.std.specs.Io.KnownBytes.{Consumes};
+ghost use Rattle.lvs_check.specs.Request.{name_of, request_of};
 
 use lvs::SignAnswer;
 use lvs_verdict::Verdict;
@@ -72,6 +75,7 @@ fn read_model<'a, R: Files>(rt: &R, space: &'a mut [u8]) -> &'a [u8]
 }
 
 /// As many bytes as the file has and the space holds. A read that fails ends it, like the end of the file.
+/// Each program has its own: no library may name `std` (tools/axioms.py).
 fn read_all<'a, R: Read + Drop>(mut file: R, space: &'a mut [u8]) -> &'a [u8]
     ensures { length result.now ≤ length space.old }
 {
@@ -98,35 +102,60 @@ fn answer_requests<P: Print, R: Read>(rt: &P, input: &mut R, model: &[u8]) {
     }
 }
 
-/// The next request; none where the input ends before it.
+/// The next request; none where the input ends before it. Nothing behind it is read.
 fn read_request<'a, R: Read>(
     input: &mut R,
     packet: &'a mut NameSpace,
     key: &'a mut NameSpace,
-) -> Result<Option<Request<'a>>, Broken> {
-    let mut mark = [0; 2];
-    if input.read_exact(&mut mark[..1]).is_err() {
+) -> Result<Option<Request<'a>>, Broken>
+    ensures { IfOk result (λ next. IfSome next (λ request.
+        Consumes (R.remaining input.old) (R.remaining input.new) (request_of request.packet.now request.key.now))) }
+{
+    if !read_mark(input)? {
         return Ok(None);
-    }
-    input.read_exact(&mut mark[1..])?;
-    if mark != MARK {
-        return Err(Broken);
     }
     let packet = read_name(input, packet)?;
     let key = read_name(input, key)?;
     Ok(Some(Request { packet, key }))
 }
 
+/// Whether another request begins: false at the end of the input.
+fn read_mark<R: Read>(input: &mut R) -> Result<bool, Broken>
+    ensures { IfOk result (λ begins. IsTrue begins → Consumes (R.remaining input.old) (R.remaining input.new) MARK) }
+{
+    let Ok(first) = read_array::<_, 1>(input) else {
+        return Ok(false);
+    };
+    let second = read_array::<_, 1>(input)?;
+    if [first[0], second[0]] != MARK {
+        return Err(Broken);
+    }
+    Ok(true)
+}
+
 /// Reads a length and a name of that many bytes.
 fn read_name<'a, R: Read>(input: &mut R, space: &'a mut NameSpace) -> Result<&'a [u8], Broken>
-    ensures { IfOk result (λ name. length name.now ≤ NAME_BYTES) }
+    ensures room { IfOk result (λ name. length name.now ≤ NAME_BYTES) }
+    ensures bytes { IfOk result (λ name. Consumes (R.remaining input.old) (R.remaining input.new) (name_of name.now)) }
 {
-    let mut size = [0; 2];
-    input.read_exact(&mut size)?;
-    let size = usize::from(u16::from_be_bytes(size));
+    let size = usize::from(read_size(input)?);
     let name = space.get_mut(..size).ok_or(Broken)?;
     input.read_exact(name)?;
     Ok(name)
+}
+
+fn read_size<R: Read>(input: &mut R) -> Result<u16, Broken>
+    ensures { IfOk result (λ n. Consumes (R.remaining input.old) (R.remaining input.new) (to_be_bytes w16 n)) }
+{
+    Ok(u16::from_be_bytes(read_array(input)?))
+}
+
+fn read_array<R: Read, const N: usize>(input: &mut R) -> Result<[u8; N], Broken>
+    ensures { IfOk result (λ bytes. Consumes (R.remaining input.old) (R.remaining input.new) bytes) }
+{
+    let mut bytes = [0; N];
+    input.read_exact(&mut bytes)?;
+    Ok(bytes)
 }
 
 fn answer<P: Print>(rt: &P, model: &[u8], k: u64, request: Request) {

@@ -4,7 +4,7 @@
 //! line is `nodes` and their number. `malformed` stands for a number where the bytes are not elements and nothing else.
 #![tactic(auto)]
 
-ghost use Rattle.std.specs.Prelude.{◌≡◌};
+ghost use Rattle.std.specs.Prelude.{◌≡◌, ◌≤◌, length};
 ghost use Rattle.lvs_spec.specs.Types.{Node};
 ghost use Rattle.tlv_reader.specs.Count.{count_of};
 
@@ -37,7 +37,10 @@ fn main(rt: HostRuntime) {
 }
 
 /// As many bytes as the input has and the space holds. A read that fails ends it, like the end of the input.
-fn read_all<'a, R: io::Read + Drop>(mut input: R, space: &'a mut [u8]) -> &'a [u8] {
+/// Each program has its own: no library may name `std` (tools/axioms.py).
+fn read_all<'a, R: io::Read + Drop>(mut input: R, space: &'a mut [u8]) -> &'a [u8]
+    ensures { length result.now ≤ length space.old }
+{
     let mut done = 0;
     while done < space.len() {
         match input.read(&mut space[done..]) {
