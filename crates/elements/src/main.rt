@@ -25,7 +25,7 @@ fn main(rt: HostRuntime) {
 }
 
 /// As many bytes as the input has and the space holds. A read that fails ends it, like the end of the input.
-/// Each program has its own: no library may name `std` (tools/axioms.py).
+/// This and `put_line` stand in three programs: no library may name `std` (tools/axioms.py).
 fn read_all<'a, R: io::Read + Drop>(mut input: R, space: &'a mut [u8]) -> &'a [u8]
     ensures { length result.now ≤ length space.old }
 {
@@ -39,6 +39,7 @@ fn read_all<'a, R: io::Read + Drop>(mut input: R, space: &'a mut [u8]) -> &'a [u
     &space[..done]
 }
 
+/// By places, which are what it prints: an iterator over elements has only their insides.
 fn print_elements<P: Print>(rt: &P, s: &[u8]) {
     let mut place = Place { at: 0 };
     loop {

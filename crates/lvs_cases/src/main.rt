@@ -67,7 +67,7 @@ fn answer_cases<R: Read, W: Write>(driver: &mut Driver<R, W>, memory: &mut Memor
     }
 }
 
-/// All but `W` begin with a model, or a component in its place; the output of `W` goes there.
+/// All but `W` begin with a model, or a component in its place; the output of `W` goes there. Each letter takes other buffers.
 fn answer_case<R: Read, W: Write>(
     letter: u8,
     driver: &mut Driver<R, W>,

@@ -23,6 +23,7 @@ impl<W: Write> AnswerWriter<W> {
         }
     }
 
+    /// Gathering never fails.
     pub fn put<D: Display + Drop>(&mut self, text: D) {
         let _ = self.write(text);
     }

@@ -54,6 +54,7 @@ fn main(rt: HostRuntime) {
         }
         Verdict::Accepted { nodes } => {
             put_line(&rt, format_args!("model {nodes} nodes"));
+            // `stdin` has no buffer: what is read is what was asked for
             answer_requests(&rt, &mut rt.stdin(), model);
         }
     }
@@ -75,7 +76,7 @@ fn read_model<'a, R: Files>(rt: &R, space: &'a mut [u8]) -> &'a [u8]
 }
 
 /// As many bytes as the file has and the space holds. A read that fails ends it, like the end of the file.
-/// Each program has its own: no library may name `std` (tools/axioms.py).
+/// This and `put_line` stand in three programs: no library may name `std` (tools/axioms.py).
 fn read_all<'a, R: Read + Drop>(mut file: R, space: &'a mut [u8]) -> &'a [u8]
     ensures { length result.now ≤ length space.old }
 {

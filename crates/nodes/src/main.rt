@@ -37,7 +37,7 @@ fn main(rt: HostRuntime) {
 }
 
 /// As many bytes as the input has and the space holds. A read that fails ends it, like the end of the input.
-/// Each program has its own: no library may name `std` (tools/axioms.py).
+/// This and `put_line` stand in three programs: no library may name `std` (tools/axioms.py).
 fn read_all<'a, R: io::Read + Drop>(mut input: R, space: &'a mut [u8]) -> &'a [u8]
     ensures { length result.now ≤ length space.old }
 {
