@@ -108,3 +108,18 @@ module _ (packet key : List ℕ) (side : Side) (at : ℕ) {header text : ℕ} {b
         };
         row_is = rw text_at (row_found packet key side f);
       }
+
+-- the same from what the callees say of a name and a component
+pub found_at : (packet key : List ℕ) (side : Side) (at : ℕ) {name : List ℕ} {r : Answer Component} {x : Component} {text : ℕ}
+    → length packet ≤ max_name_bytes → length key ≤ max_name_bytes → name ≡ name_for packet key side → ComponentAt name at r → r ≡ Some x
+    → text ≡ text_place packet side at → Found packet key side at text x.bytes.now
+found_at packet key side at packet_short key_short n read e text_at =
+    component packet key side at packet_short key_short text_at (has_component packet key side at n read e)
+
+-- a component ends within the limit
+pub ends_low : (packet key : List ℕ) (side : Side) (at : ℕ) {name : List ℕ} {r : Answer Component} {x : Component}
+    → length packet ≤ max_name_bytes → length key ≤ max_name_bytes → name ≡ name_for packet key side → ComponentAt name at r → r ≡ Some x
+    → at + length x.bytes.now ≤ max_name_bytes
+ends_low packet key side at packet_short key_short n read e =
+    let f = has_component packet key side at n read e in
+    let short = name_short packet key side max_name_bytes packet_short key_short in omega (arith, f.within)

@@ -11,7 +11,8 @@ use borrow.Author.Tests.{eqb-true, eqb-false, eq-eqb, ne_eqb}
 use lib.Dec.{eqb}
 use lib.ListN.{length, take, set, length-append, length-map, length-take, length-set}
 use lib.Seq.{take-suc-set}
-use Rattle.std.specs.Prelude.{Option as Answer, Some}
+use mathlib.Core.Option.{some}
+use Rattle.std.specs.Prelude.{Option as Answer}
 use Rattle.std.specs.List.{filter}
 use Rattle.tlv.specs.Element.{Element}
 use Rattle.tlv.specs.Fields.{inside_of, insides, elements, number_of, integers}
@@ -118,20 +119,25 @@ least_more g (y ∷ ys) x = rw (least_more g ys x) (sym (min_assoc _ _ _))
 abbrev pub least_left : (List ℕ → ℕ) → ℕ → List Element → ℕ
 least_left f k es = least_of f (left_of k es)
 
-pub sweep_start : (f : List ℕ → ℕ) (k : ℕ) (s : List ℕ) → min no_rule (least_left f k (elements s)) ≡ least_of f (insides k s)
-sweep_start f k s = min-eq_right (least_most f _) ∙ ap (least_of f) (sym (insides_listed k s))
+-- m, with the lowest of these, is the lowest of all in s
+pub record Swept (f : List ℕ → ℕ) (k : ℕ) (s : List ℕ) (es : List Element) (m : ℕ) : Type 0 where
+  pub is : min m (least_left f k es) ≡ least_of f (insides k s)
 
-pub sweep_end : (f : List ℕ → ℕ) (k n : ℕ) → n ≤ no_rule → min n (least_left f k []) ≡ n
-unfolding least_of
-sweep_end f k n h = omega arith
+module _ (f : List ℕ → ℕ) (k : ℕ) where
+  pub none_swept : (s : List ℕ) → Swept f k s (elements s) no_rule
+  none_swept s = record { is = min-eq_right (least_most f _) ∙ ap (least_of f) (sym (insides_listed k s)) }
 
-module _ (f : List ℕ → ℕ) (k : ℕ) (e : Element) (es : List Element) where
-  pub sweep_found : (m : ℕ) {r n : ℕ} → e.type ≡ k → r ≡ f e.inside → n ≡ min m r → min n (least_left f k es) ≡ min m (least_left f k (e ∷ es))
+  module _ {s : List ℕ} {e : Element} {es : List Element} {m : ℕ} (inv : Swept f k s (e ∷ es) m) where
+    pub one_swept : {r n : ℕ} → e.type ≡ k → r ≡ f e.inside → n ≡ min m r → Swept f k s es n
+    unfolding least_of
+    one_swept q g h = record { is = rw (h, g) (min_assoc m (f e.inside) (least_left f k es) ∙ rw (left_found k e es q) at inv.is) }
+
+    pub other_swept : (e.type ≡ k → ⊥) → Swept f k s es m
+    other_swept no' = record { is = rw (left_other k e es no') at inv.is }
+
+  pub all_swept : {s : List ℕ} {m : ℕ} → m ≤ no_rule → Swept f k s [] m → m ≡ least_of f (insides k s)
   unfolding least_of
-  sweep_found m q g h = rw (h, g, left_found k e es q) (min_assoc m (f e.inside) (least_left f k es))
-
-  pub sweep_other : (e.type ≡ k → ⊥) → least_left f k es ≡ least_left f k (e ∷ es)
-  sweep_other no' = ap (least_of f) (sym (left_other k e es no'))
+  all_swept h inv = omega (arith, inv.is)
 
 -- ---- the first argument
 
@@ -165,7 +171,7 @@ unfolding parent_index node_of integers
 parent_start s = ap (λ (xs : List (List ℕ)). parent_from (first (map number_of xs))) (sym (insides_listed type.Parent s))
 
 module _ (e : Element) (es : List Element) where
-  pub parent_first : e.type ≡ type.Parent → parent_left (e ∷ es) ≡ Some (number_of e.inside)
+  pub parent_first : e.type ≡ type.Parent → parent_left (e ∷ es) ≡ parent_from (some (number_of e.inside))
   parent_first q = ap (λ (xs : List (List ℕ)). parent_from (first (map number_of xs))) (left_found type.Parent e es q)
 
   pub no_parent : (e.type ≡ type.Parent → ⊥) → parent_left (e ∷ es) ≡ parent_left es

@@ -4,7 +4,7 @@ use mathlib.Core.Path.{◌≡◌, refl, sym, ap, ◌∙◌}
 use mathlib.Core.Bool.{Bool, true, false, cond, not}
 use mathlib.Core.List.{List, map}
 use mathlib.Core.Option.{some}
-use Prim.Native.Nat.{ℕ, ◌≤◌, min}
+use Prim.Native.Nat.{ℕ, ◌≤◌, ◌<◌, min}
 use native.Mathlib.Nat.{min_comm, min-eq_left}
 use native.Mathlib.Omega.{arith}
 use borrow.Author.Tests.{le-ltb}
@@ -64,9 +64,9 @@ module _ (m : Model) where
   unfolding named_rule rules broken names_none
   signer_row s = rw (length-map m.nodes parent_index)
 
-  destination_row : (i d : ℕ) → destination_rule (map parent_index m.nodes) i d ≡ first_row (λ a. a.destination i d) (rules m)
+  destination_row : {i : ℕ} → i < max_nodes → (d : ℕ) → destination_rule (map parent_index m.nodes) i d ≡ first_row (λ a. a.destination i d) (rules m)
   unfolding rules broken
-  destination_row i d = destination_is m i d
+  destination_row small d = destination_is m small d
 
   start_row : length m.nodes ≤ max_nodes → named_rule 7 (length m.nodes) m.start ≡ first_row (λ a. a.whole) (rules m)
   unfolding named_rule rules broken names_none
@@ -158,14 +158,14 @@ module _ (m : Model) (n : Node) where
   unfolding node_rule destinations_rule
   parts_are start parents i = rw (patterns_are, tags_are) (simp (min_assoc, min_comm, min_swap))
 
-  pub node_rows : (i : ℕ) → get_elem? m.nodes i ≡ some n
+  pub node_rows : {i : ℕ} → i < max_nodes → get_elem? m.nodes i ≡ some n
       → node_rule m.start (map parent_index m.nodes) i n ≡ first_row (λ a. fails_at a i n) (rules m)
-  node_rows i there =
+  node_rows {i} small there =
       parts_are m.start (map parent_index m.nodes) i ∙
       rw (
         node_row m i n there,
         least_same (tag_row m) (node_tags n),
-        least_same (destination_row m i) (destinations n),
+        least_same (destination_row m small) (destinations n),
         least_same (signer_row m) n.signers,
         least_same (option_row m) (options n),
         least_same (call_row m) (calls n),

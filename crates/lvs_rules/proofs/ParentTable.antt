@@ -4,8 +4,10 @@ use mathlib.Core.Path.{◌≡◌, refl, sym, ◌∙◌}
 use mathlib.Core.Bool.{Bool, true, false, cond, not}
 use mathlib.Core.List.{List, map}
 use mathlib.Core.Option.{Option, none, some, some-injective}
-use Prim.Native.Nat.{ℕ, ◌≤◌, ◌<◌}
-use borrow.Author.Tests.{le-leb, lt-leb, eq-eqb, ne_eqb, leb-false}
+use Prim.Native.Nat.{ℕ, ◌≤◌, ◌<◌, min}
+use borrow.Author.Tests.{le-leb, lt-leb, eq-eqb, ne_eqb, leb-true, leb-false}
+use native.Mathlib.Omega.{arith}
+use Rattle.lvs_spec.specs.Limits.{max_nodes}
 use lib.Dec.{leb, eqb}
 use lib.ListN.{length, get_or, get_elem?, length-map}
 use Rattle.std.specs.Prelude.{Option as Answer, None, is_some as answers}
@@ -21,16 +23,23 @@ parent_of ns i {n} h =
     let there = get_elem_map parent_index ns i h in
     sym (some-injective _ _ (sym there ∙ get_elem_get_d (map parent_index ns) i None (get_elem_lt (map parent_index ns) i there)))
 
-same_parent : (i : ℕ) (o : Option ℕ) → is_index i (parent_from o) ≡ is (eqb i) o
-same_parent i none = refl
-same_parent i (some p) = refl
+module _ {i : ℕ} (small : i < max_nodes) where
+  same_parent : (o : Option ℕ) → is_index i (parent_from o) ≡ is (eqb i) o
+  same_parent none = refl
+  same_parent (some p) = go (leb p 4294967295) refl
+    where
+      go : (t : Bool) → leb p 4294967295 ≡ t → eqb i (min p 4294967295) ≡ eqb i p
+      go true q = let e : min p 4294967295 ≡ p = omega (arith, leb-true p 4294967295 q) in rw e
+      go false q =
+          let h : 4294967295 < p = leb-false p 4294967295 q in
+          ne_eqb i (min p 4294967295) (λ e. omega arith) ∙ sym (ne_eqb i p (λ e. omega arith))
 
-parent_at : (i : ℕ) (ns : List Node) (d : ℕ) → d < length ns
-    → is_index i (get_or (map parent_index ns) d None) ≡ is (eqb i) (bind (get_elem? ns d) (λ n. n.parent))
-unfolding parent_index
-parent_at i ns d h =
-    let there = get_elem_get_d ns d no_node h in
-    rw (parent_of ns d there, there) (same_parent i (get_or ns d no_node).parent)
+  parent_at : (ns : List Node) (d : ℕ) → d < length ns
+      → is_index i (get_or (map parent_index ns) d None) ≡ is (eqb i) (bind (get_elem? ns d) (λ n. n.parent))
+  unfolding parent_index
+  parent_at ns d h =
+      let there = get_elem_get_d ns d no_node h in
+      rw (parent_of ns d there, there) (same_parent (get_or ns d no_node).parent)
 
 -- ---- what the code finds at a destination
 
@@ -65,12 +74,12 @@ pub root_is : (m : Model) (i : ℕ) (n : Node) → get_elem? m.nodes i ≡ some 
 unfolding root_rule start_has_parent parent_index
 root_is m i n h = rw (parent_of m.nodes i h, parent_tells n.parent)
 
-pub destination_is : (m : Model) (i d : ℕ)
+pub destination_is : (m : Model) {i : ℕ} → i < max_nodes → (d : ℕ)
     → destination_rule (map parent_index m.nodes) i d ≡ cond (names_none m d) 8 (broken 11 (not_parent m i d))
 unfolding destination_rule names_none not_parent
-destination_is m i d = rw (length-map m.nodes parent_index) (go (leb (length m.nodes) d) refl)
+destination_is m {i} small d = rw (length-map m.nodes parent_index) (go (leb (length m.nodes) d) refl)
   where
     go : (t : Bool) → leb (length m.nodes) d ≡ t
         → cond t 8 (broken 11 (not (is_index i (get_or (map parent_index m.nodes) d None)))) ≡ cond t 8 (broken 11 (not_parent m i d))
     go true q = refl
-    go false q = rw (parent_at i m.nodes d (leb-false _ _ q))
+    go false q = rw (parent_at small m.nodes d (leb-false _ _ q))

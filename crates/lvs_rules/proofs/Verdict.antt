@@ -2,10 +2,12 @@
 use mathlib.Core.Path.{◌≡◌}
 use mathlib.Core.List.{map}
 use Prim.Native.Nat.{ℕ, ◌≤◌, ◌<◌, min}
+use native.Mathlib.Omega.{arith}
 use borrow.Author.Tests.{lt-ltb, le-ltb, eq-eqb, ne_eqb}
 use lib.ListN.{length}
 use Rattle.lvs_spec.specs.Limits.{max_nodes}
 use Rattle.lvs_spec.specs.Model.{Model}
+use Rattle.lvs_spec.proofs.Lists.{get_elem_lt}
 use Rattle.lvs_spec.specs.Verdict.{accepted, refused, rules, fault, decide, judge}
 use Rattle.lvs_rules.specs.Lowest.{no_rule, least_of, named_rule, symbol_rule, node_rule, parent_index}
 use Rattle.lvs_rules.specs.Faults.{Fault, lowest, named, verdict_of}
@@ -20,7 +22,7 @@ pub judge_few : (m : Model) → length m.nodes ≤ max_nodes
 unfolding judge
 judge_few m few =
     decided_by m (table_fits m) (node_rule m.start (map parent_index m.nodes)) _
-    (λ i n there. node_rows m n i there)
+    (λ i n there. node_rows m n (omega (arith, get_elem_lt m.nodes i there)) there)
     (outside_rows m few)
 
 pub judge_many : (m : Model) → max_nodes < length m.nodes → judge m ≡ refused 4 0

@@ -48,10 +48,10 @@ option_rule o = min (terms_rule o) (least_of term_rule o)
 unfoldable pub constraint_rule : Constraint → ℕ
 constraint_rule c = least_of option_rule c
 
--- the index that a Node names as its Parent, as the code has it
+-- the index that a Node names as its Parent, as the code holds it: one that no Node has may be another such
 abbrev pub parent_from : Option ℕ → Answer ℕ
 parent_from none = None
-parent_from (some p) = Some p
+parent_from (some p) = Some (min p 4294967295)
 
 unfoldable pub parent_index : Node → Answer ℕ
 parent_index n = parent_from n.parent

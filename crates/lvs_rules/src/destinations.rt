@@ -12,7 +12,7 @@ use lvs_spec::types::{NODE_ID, PATTERN_EDGE, VALUE_EDGE};
 use tlv::Elements;
 
 // The lowest of these rules that the edges of the Node with index `i` break.
-pub(crate) fn destinations_rule(node: &[u8], i: u32, parents: &[Option<u64>]) -> Option<Rule>
+pub(crate) fn destinations_rule(node: &[u8], i: u32, parents: &[Option<u32>]) -> Option<Rule>
     requires { length parents.now ≤ max_nodes }
     ensures { number result ≡ destinations_rule parents.now i (destinations (node_of node.now)) }
 {
@@ -30,13 +30,13 @@ pub(crate) fn destinations_rule(node: &[u8], i: u32, parents: &[Option<u64>]) ->
 
 // Rules 8 and 11: a destination names a Node, whose Parent is the Node with index `i`.
 #[tactic(auto, unfolding(crate::specs::Lowest::destination_rule, crate::specs::Lowest::broken))]
-fn destination_rule(d: u64, i: u32, parents: &[Option<u64>]) -> Option<Rule>
+fn destination_rule(d: u64, i: u32, parents: &[Option<u32>]) -> Option<Rule>
     ensures { number result ≡ destination_rule parents.now i d }
 {
     if parents.len() as u64 <= d {
         return Some(Rule::Destination);
     }
-    (parents[d as usize] != Some(u64::from(i))).then_some(Rule::Parent)
+    (parents[d as usize] != Some(i)).then_some(Rule::Parent)
 }
 
 // Rule 14: no edge before leads there, so that no two of a Node are parallel. `seen` says where those before lead.

@@ -78,7 +78,7 @@ fn conclude(fault: Fault, whole: Option<Rule>, nodes: u32) -> Result<u32, Refusa
 }
 
 // The lowest rule that a Node breaks, with the first Node that breaks it.
-fn lowest_fault(model: &[u8], start: u64, parents: &[Option<u64>]) -> Fault
+fn lowest_fault(model: &[u8], start: u64, parents: &[Option<u32>]) -> Fault
     requires { (length (insides type.Node model.now) ≤ max_nodes) × (length parents.now ≡ length (insides type.Node model.now)) }
     ensures { fault_of result ≡
         lowest (λ i b. node_rule start parents.now i (node_of b)) (insides type.Node model.now) }
@@ -106,7 +106,7 @@ fn earlier(a: Fault, b: Fault) -> Fault
 }
 
 // The lowest rule that the Node with index `i` breaks.
-fn node_rule(node: &[u8], i: u32, start: u64, parents: &[Option<u64>]) -> Option<Rule>
+fn node_rule(node: &[u8], i: u32, start: u64, parents: &[Option<u32>]) -> Option<Rule>
     requires { (length parents.now ≤ max_nodes) × (i < length parents.now) }
     ensures { number result ≡ node_rule start parents.now i (node_of node.now) }
 {

@@ -10,7 +10,7 @@ loop-element-init c =
 
 pub returns-then-element-eq-PARENT : goal.returns-then-element-eq-PARENT
 returns-then-element-eq-PARENT c =
-    rw c.number_of.ensures
+    c.index_of.ensures ∙ rw c.number_of.ensures
     (sym (parent_first _ _ c.if-element-eq-PARENT.true) ∙ sym (ap parent_left c.in-Some.ensures.steps) ∙ c.loop-element.invariant)
 
 pub loop-element-preserved : goal.loop-element-preserved
