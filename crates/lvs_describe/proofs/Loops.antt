@@ -1,12 +1,13 @@
 -- Loops over a container's elements: those that an iteration has left, and what they come to. Assumes nothing.
-use mathlib.Core.Path.{◌≡◌, sym, ap}
+use mathlib.Core.Path.{◌≡◌, refl, sym, ap, ◌∙◌}
 use mathlib.Core.Bool.{Bool, true, false}
 use mathlib.Core.List.{List, [], ◌∷◌}
-use Prim.Native.Nat.{ℕ, ◌+◌, ◌≤◌, ◌<◌}
+use Prim.Native.Nat.{ℕ, suc, ◌+◌, ◌≤◌, ◌<◌}
 use native.Mathlib.Omega.{arith}
 use borrow.Author.Tests.{ne_eqb}
 use lib.ListN.{length}
 use mir.Val.{bool_byte}
+use Rattle.std.specs.List.{filter}
 use Rattle.tlv.specs.Element.{Element, Each, done, broken, next, cuts}
 use Rattle.tlv.specs.Lists.{when, each, first_or}
 use Rattle.tlv.specs.Fields.{each_cut, elements, number_of}
@@ -98,6 +99,23 @@ items_most k b = each_most (item_from k) few b
 
 -- ---- how many there are
 
+pub elements_most : (b : List ℕ) → length (elements b) ≤ length b
+unfolding elements
+elements_most b = each_most (λ e. e ∷ []) (λ e. omega arith) b
+
+filtered : (k : Sort) (es : List Element) → length (filter (λ e. is_of k e.type) es) ≡ length (items_in k es)
+filtered k [] = refl
+filtered k (e ∷ es) = go (is_of k e.type) refl (filtered k es)
+  where
+    go : (b : Bool) → is_of k e.type ≡ b → length (filter (λ x. is_of k x.type) es) ≡ length (items_in k es)
+        → length (filter (λ x. is_of k x.type) (e ∷ es)) ≡ length (items_in k (e ∷ es))
+    go true q h = rw (q, item_here k e es q) (ap suc h)
+    go false q h = rw (q, item_passed k e es q) h
+
+-- those that a filter lets through
+pub items_filtered : (k : Sort) (b : List ℕ) → length (filter (λ e. is_of k e.type) (elements b)) ≡ length (items_of k b)
+items_filtered k b = filtered k (elements b) ∙ ap length (sym (items_listed k b))
+
 -- with those that are left, n makes up all
 pub record Tally (k : Sort) (b : List ℕ) (left : List Element) (n : ℕ) : Type 0 where
   pub is : n + length (items_in k left) ≡ length (items_of k b)
@@ -113,14 +131,11 @@ module _ {k : Sort} {b : List ℕ} {left : List Element} {n : ℕ} (T : Tally k 
     before : n + length (items_in k (e ∷ es)) ≡ length (items_of k b)
     before = omega (arith, T.is, ap (λ xs. length (items_in k xs)) q)
 
-    pub tally_here : is_of k e.type ≡ true → Tally k b es (n + 1)
+    tally_here : is_of k e.type ≡ true → Tally k b es (n + 1)
     tally_here h = record { is = omega (arith, before, ap length (item_here k e es h)) }
 
-    pub tally_past : is_of k e.type ≡ false → Tally k b es n
+    tally_past : is_of k e.type ≡ false → Tally k b es n
     tally_past h = record { is = omega (arith, before, ap length (item_passed k e es h)) }
-
-    pub tally_room : is_of k e.type ≡ true → n < length b
-    tally_room h = omega (arith, before, ap length (item_here k e es h), items_most k b)
 
 -- an element of any type counts 1 or 0
 module _ {k : Sort} {b : List ℕ} {left : List Element} {n : ℕ} {e : Element} {es : List Element} {h : Bool} {r : ℕ} (T : Tally k b left n)

@@ -175,11 +175,7 @@ fn count_each(node: &[u8]) -> Counts
 fn count_items(s: &[u8], sort: Sort) -> usize
     ensures { result ≡ length (items_of sort s.now) }
 {
-    let mut n = 0;
-    for element in Elements::of(s) {
-        if sort.holds(element.typ) {
-            n += 1;
-        }
-    }
-    n
+    Elements::of(s)
+        .filter(|element| sort.holds(element.typ))
+        .count()
 }

@@ -1,16 +1,23 @@
-use Rattle.std.proofs.Common.{sym, ap, ◌∙◌, arith}
-use Rattle.tlv.specs.Answers.{elements_left}
-use Rattle.lvs_describe.proofs.Loops.{tally_first, tally_here, tally_past, tally_room}
+-- The elements that the filter lets through are counted. Assumes nothing.
+use Rattle.std.proofs.Common.{◌≤◌, ◌∙◌, length, ap, inl, rules, arith}
+use Rattle.std.proofs.lemmas.Iterator.Consumers.{YieldsList-from_first, YieldsList-from_filter, count_from_yields_List}
+use borrow.Author.Tests.{tests}
+use Rattle.tlv.specs.Element.{Element}
+use Rattle.tlv.specs.Answers.{element_of, elements_left}
+use Rattle.lvs_describe.specs.Sorts.{is_of}
+use Rattle.lvs_describe.proofs.Loops.{elements_most, items_filtered}
 use Rattle.lvs_describe.proofs.rows.count_items.Goals as goal
 
-pub loop-element-init : goal.loop-element-init
-loop-element-init c = tally_first _ _ (ap elements_left c.into_iter-element-iterator.ensures.into_iter_gives ∙ c.of-element-items.ensures.left)
+pub count-requires-clause-fits : goal.count-requires-clause-fits
+count-requires-clause-fits c =
+    let few : length (elements_left c.filter.result.iter) ≤ length c.args.s.now =
+    rw (ap elements_left c.filter.ensures.source ∙ c.of.ensures.left) (elements_most _) in
+    inl (omega (arith, few))
 
-pub overflow_add-n : goal.overflow_add-n
-overflow_add-n c = omega (arith, tally_room c.loop-element.invariant c.in-Some.ensures.steps (sym c.holds.ensures ∙ c.if-holds.true))
-
-pub loop-element-preserved-then-holds : goal.loop-element-preserved-then-holds
-loop-element-preserved-then-holds c = tally_here c.loop-element.invariant c.in-Some.ensures.steps (sym c.holds.ensures ∙ c.if-holds.true)
-
-pub loop-element-preserved : goal.loop-element-preserved
-loop-element-preserved c = tally_past c.loop-element.invariant c.in-Some.ensures.steps (sym c.holds.ensures ∙ c.if-holds.false)
+pub returns : goal.returns
+returns c =
+    count_from_yields_List _ _ c.count.ensures.ran
+    (YieldsList-from_filter _ (λ (e : Element). is_of c.args.sort e.type)
+    (YieldsList-from_first element_of elements_left _ (ap elements_left c.filter.ensures.source ∙ c.of.ensures.left))
+    c.filter.ensures.closure (λ x b q k. search (rules, tests)))
+    ∙ items_filtered c.args.sort _
