@@ -146,7 +146,7 @@ fn write_node<'a>(out: &mut [u8], s: Cursor<'a>) -> Option<Cursor<'a>>
     write_many(Part::Signer, out, patterns)
 }
 
-// 0, or 1 and the Parent.
+// 0, or 1 and the Parent. Here and below the number is what docs/format.md, 12.1, has in the list: it is matched where it is read.
 fn write_parent<'a>(out: &mut [u8], s: Cursor<'a>) -> Option<Cursor<'a>>
     ensures { Writes (spelled (maybe (integer type.Parent))) out.old out.new s.entry result }
 {
