@@ -30,12 +30,11 @@ pub fn read_list(list: &[u8]) -> Result<(), Refusal>
     if too_many(list) {
         return Err(Refusal::ManyCertificates);
     }
-    match first_unfit(list) {
-        Some(index) => Err(Refusal::UnfitCertificate {
-            index: index as u32,
-        }),
-        None => Ok(()),
+    if let Some(index) = first_unfit(list) {
+        let index = index as u32;
+        return Err(Refusal::UnfitCertificate { index });
     }
+    Ok(())
 }
 
 // Whether bytes are left after 64 entries have been cut off.
@@ -85,7 +84,7 @@ pub fn first_allowed<'a>(
     ensures { result ≡ index_from (first_index (allows (model_of nodes.now.model.now) packet.now) 0 (entries list.now)) }
 {
     let mut place = Place { at: 0 };
-    let mut index: usize = 0;
+    let mut index: usize = 0; // as in `first_unfit`
     while let Read::Found {
         start,
         end,
