@@ -1,6 +1,7 @@
 -- The entries of a list at their places: how many there are, and searches among them. Assumes nothing.
 use Prim.Native.Nat.{ℕ, ◌+◌, ◌-◌, ◌≤◌, ◌<◌}
 use mathlib.Core.Path.{◌≡◌, refl, sym, ap, ◌∙◌}
+use mathlib.Core.Logic.{⊎_elim}
 use mathlib.Core.Bool.{Bool, true, false}
 use mathlib.Core.List.{List, [], ◌∷◌}
 use mathlib.Core.Option.{Option, none, some}
@@ -8,14 +9,22 @@ use native.Mathlib.Omega.{arith}
 use borrow.Author.Tests.{lt-ltb, le-ltb, ltb-true, ltb-false}
 use lib.Dec.{ltb}
 use lib.ListN.{length, take, drop, length-drop}
+use Rattle.std.specs.Prelude.{Option as Answer, Some, None, Ok, Err}
 use Rattle.tlv.specs.Element.{done, broken, cuts, pieces}
 use Rattle.tlv.specs.Lists.{first_index}
+use Rattle.tlv.specs.Answers.{read_at}
 use Rattle.tlv.specs.declared.Place.{Place}
+use Rattle.tlv.specs.declared.Read.{Read}
+use Rattle.tlv.specs.declared.Read.TheVariants.{Found, End, Malformed}
 use Rattle.tlv.proofs.Cuts.{Step}
+use Rattle.tlv.proofs.Gathered.{Stop, stop_end, stop_malformed}
 use Rattle.lvs_spec.specs.Limits.{max_certificates}
-use Rattle.lvs_spec.specs.Certificates.{Entry, entries, unfit, many_entries, unfit_entry, fit_entries, fitness, list_reading}
+use Rattle.lvs_spec.specs.Certificates.{Entry, entries, unfit, fitness, list_reading}
+use Rattle.lvs_spec.specs.declared.refusal.Refusal.TheVariants.{ManyCertificates, UnfitCertificate}
+use Rattle.lvs_spec.proofs.Lists.{clash}
 use Rattle.lvs_spec.proofs.Certificates.{some_entry, no_entry}
 use Rattle.lvs_spec.proofs.Indices.{index_here, index_later, index_below}
+use Rattle.lvs_certificates.specs.Answers.{index_from, list_answer}
 
 -- ---- what stands at a place
 
@@ -37,6 +46,15 @@ module _ (list : List ℕ) (at : ℕ) where
   unfolding entries pieces
   entries_next st = rw st.cut_is
 
+-- no element was found
+pub stopped : {list : List ℕ} {at : ℕ} {r : Read} → r ≡ read_at list at → ((t start stop : ℕ) (p : Place) → r ≡ Found t start stop p → ⊥) → Stop list at
+stopped {list} {at} {r} e other = go r refl
+  where
+    go : (a : Read) → r ≡ a → Stop list at
+    go (Found t start stop p) f = absurd (other t start stop p f)
+    go End f = stop_end list at e f
+    go Malformed f = stop_malformed list at e f
+
 -- ---- how many there are
 
 -- n of them, at most 64, are cut off before the place
@@ -56,11 +74,8 @@ module _ {list : List ℕ} {at n : ℕ} (inv : CutOff list at n) where
     few e o = sym (le-ltb max_certificates (length (entries list)) (omega (arith, inv.is, ap length e)))
 
     -- the list ends after fewer, or with an entry that cannot be cut
-    pub cut_end : cuts (drop at list) ≡ done → false ≡ ltb max_certificates (length (entries list))
-    cut_end e = few (entries_done list at e) (omega arith)
-
-    pub cut_broken : cuts (drop at list) ≡ broken → false ≡ ltb max_certificates (length (entries list))
-    cut_broken e = few (entries_broken list at e) (omega arith)
+    pub cut_stop : Stop list at → false ≡ ltb max_certificates (length (entries list))
+    cut_stop st = ⊎_elim (λ e. few (entries_done list at e) (omega arith)) (λ e. few (entries_broken list at e) (omega arith)) st.cut_is
 
   -- or 64 are cut off, and bytes are left or not
   pub cut_full : max_certificates ≤ n → ltb at (length list) ≡ ltb max_certificates (length (entries list))
@@ -99,11 +114,14 @@ module _ {f : Entry → Bool} {list : List ℕ} {at n : ℕ} (inv : Sought f lis
   pub sought_broken : cuts (drop at list) ≡ broken → f none ≡ true → some n ≡ first_index f 0 (entries list)
   sought_broken e t = here (entries_broken list at e) t
 
-  pub sought_unbroken : cuts (drop at list) ≡ broken → f none ≡ false → none ≡ first_index f 0 (entries list)
+  sought_unbroken : cuts (drop at list) ≡ broken → f none ≡ false → none ≡ first_index f 0 (entries list)
   unfolding first_index
   sought_unbroken e t = sym (inv.is ∙ rw (entries_broken list at e) (index_later f n [] t))
 
-  -- and so does an element
+  pub sought_none : Stop list at → f none ≡ false → none ≡ first_index f 0 (entries list)
+  sought_none st t = ⊎_elim sought_end (λ e. sought_unbroken e t) st.cut_is
+
+  -- and so an element
   module _ {t start stop : ℕ} {p : Place} (st : Step list at t start stop p) where
     pub sought_here : f (entry list at t start stop) ≡ true → some n ≡ first_index f 0 (entries list)
     sought_here e = here (entries_next list at st) e
@@ -117,24 +135,35 @@ module _ {f : Entry → Bool} {list : List ℕ} {at n : ℕ} (inv : Sought f lis
 
 -- ---- the tests of the whole list
 
+-- what an answer says of the index that was sought
+found_some : (x : Option ℕ) {i : ℕ} → Some i ≡ index_from x → x ≡ some i
+found_some none e = clash (cc)
+found_some (some j) e = cc
+
+found_none : (x : Option ℕ) → None ≡ index_from x → x ≡ none
+found_none none e = refl
+found_none (some j) e = clash (cc)
+
 module _ (list : List ℕ) {many : Bool} (tested : many ≡ ltb max_certificates (length (entries list))) where
-  pub read_many : many ≡ true → many_entries ≡ list_reading (entries list)
+  pub read_many : many ≡ true → Err ManyCertificates ≡ list_answer (list_reading (entries list))
   unfolding list_reading
   read_many e = sym (rw (← tested, e))
 
-  module _ {o : Option ℕ} (few : many ≡ false) (found : o ≡ first_index unfit 0 (entries list)) where
-    read_few : fitness o ≡ list_reading (entries list)
+  module _ {o : Answer ℕ} (few : many ≡ false) (found : o ≡ index_from (first_index unfit 0 (entries list))) where
+    read_few : list_answer (fitness (first_index unfit 0 (entries list))) ≡ list_answer (list_reading (entries list))
     unfolding list_reading
-    read_few = sym (rw (← tested, few, ← found))
+    read_few = sym (rw (← tested, few))
 
-    pub read_unfit : {i : ℕ} → o ≡ some i → unfit_entry i ≡ list_reading (entries list)
+    pub read_unfit : {i : ℕ} → o ≡ Some i → Err (UnfitCertificate i) ≡ list_answer (list_reading (entries list))
     unfolding fitness
-    read_unfit e = sym (ap fitness e) ∙ read_few
+    read_unfit e = sym (ap list_answer (ap fitness (found_some _ (sym e ∙ found)))) ∙ read_few
 
-    pub read_fit : o ≡ none → fit_entries ≡ list_reading (entries list)
+    pub read_fit : o ≡ None → Ok tt ≡ list_answer (list_reading (entries list))
     unfolding fitness
-    read_fit e = sym (ap fitness e) ∙ read_few
+    read_fit e = sym (ap list_answer (ap fitness (found_none _ (sym e ∙ found)))) ∙ read_few
 
     -- an index fits into a word
-    pub unfit_below : {i : ℕ} → o ≡ some i → i < max_certificates
-    unfit_below e = omega (arith, index_below unfit 0 (entries list) (sym found ∙ e), ltb-false max_certificates (length (entries list)) (sym tested ∙ few))
+    pub unfit_below : {i : ℕ} → o ≡ Some i → i < max_certificates
+    unfit_below e =
+        let few-are = ltb-false max_certificates (length (entries list)) (sym tested ∙ few) in
+        omega (arith, index_below unfit 0 (entries list) (found_some _ (sym e ∙ found)), few-are)

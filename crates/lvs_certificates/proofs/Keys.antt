@@ -5,6 +5,7 @@ use mathlib.Core.Bool.{Bool, true, false}
 use mathlib.Core.List.{List}
 use mathlib.Core.Option.{Option, none}
 use lib.ListN.{length, take, drop}
+use Rattle.std.specs.Prelude.{Option as Answer, Some, None, is_some, Result, Ok, Err, is_err}
 use Rattle.tlv.specs.Bytes.{Bytes}
 use Rattle.tlv.specs.Lists.{first}
 use Rattle.tlv.specs.declared.Place.{Place}
@@ -15,21 +16,21 @@ use Rattle.lvs_spec.specs.Names.{Component, NameReading, bad_name, good_name, na
 use Rattle.lvs_spec.specs.Walk.{Pair, pairs}
 use Rattle.lvs_spec.specs.Answers.{SignOutcome, pair_found}
 use Rattle.lvs_spec.specs.Certificates.{entries, is_bad, unfit, fit_entries, list_reading, is_allowed, roomy, allows}
+use Rattle.lvs_spec.specs.declared.refusal.Refusal.{Refusal}
+use Rattle.lvs_spec.specs.declared.refusal.Side.TheVariants.{Key}
 use Rattle.lvs_spec.proofs.Lists.{clash}
 use Rattle.lvs_spec.proofs.Names.{good_short}
 use Rattle.lvs_spec.proofs.Inputs.{roomy_enough}
 use Rattle.lvs_spec.proofs.Signing.{signs_first}
 use Rattle.lvs_spec.proofs.Certificates.{reading_fit}
 use Rattle.lvs_names.specs.Rows.{row_from}
-use Rattle.lvs_names.specs.Answers.{name_read}
+use Rattle.lvs_names.specs.Answers.{name_read, NameOf}
 use Rattle.lvs_names.specs.declared.Row.{Row}
-use Rattle.lvs_names.specs.declared.NameRead.{NameRead}
-use Rattle.lvs_names.specs.declared.NameRead.TheVariants.{Good, Refused}
+use Rattle.lvs_bindings.specs.declared.Span.{Span}
 use Rattle.lvs_names.proofs.Alone.{cut_is, cut_element}
 use Rattle.lvs_names.proofs.Names.{good_row}
 use Rattle.lvs_walk.specs.Calls.{FirstPair}
-use Rattle.lvs_walk.specs.declared.Found.{Found}
-use Rattle.lvs_walk.specs.declared.Found.TheVariants.{Nothing, At}
+use Rattle.lvs_walk.specs.declared.search.Pair.{Pair as Nodes}
 use Rattle.lvs_walk.proofs.Answers.{no_pair, some_pair}
 use Rattle.lvs_certificates.proofs.Entries.{entry, Sought, sought_here}
 
@@ -51,16 +52,14 @@ module _ {list : List ℕ} {at t start stop : ℕ} {p : Place} (bytes : Bytes li
   abbrev key : List ℕ
   key = take (stop - at) (drop at list)
 
-  -- by what was read of it
-  unfit_is : (r : NameRead) → name_read key r ≡ name_reading 24 key → unfit (entry list at t start stop) ≡ is_bad (name_read key r)
+  refused_is : (r : Result Row Refusal) → is_bad (name_read key r) ≡ is_err r
+  refused_is (Ok row) = refl
+  refused_is (Err x) = refl
+
+  -- unfit is what is refused
+  pub unfit_is : {r : Result Row Refusal} → NameOf Key key r → unfit (entry list at t start stop) ≡ is_err r
   unfolding unfit key_name
-  unfit_is r e = rw (← (cut_is bytes st), ← e)
-
-  pub unfit_refused : {r : NameRead} {x : ℕ} → name_read key r ≡ name_reading 24 key → r ≡ Refused x → unfit (entry list at t start stop) ≡ true
-  unfit_refused {r} e told = unfit_is r e ∙ ap (λ (q : NameRead). is_bad (name_read key q)) told
-
-  pub fit_good : {r : NameRead} {row : Row} → name_read key r ≡ name_reading 24 key → r ≡ Good row → unfit (entry list at t start stop) ≡ false
-  fit_good {r} e told = unfit_is r e ∙ ap (λ (q : NameRead). is_bad (name_read key q)) told
+  unfit_is {r} of = rw (← (cut_is bytes st), ← of.is) (refused_is r)
 
   -- an entry of a list without an unfit one is a good key name, whose components start behind its header
   pub record GoodKey : Type 0 where
@@ -84,7 +83,7 @@ module _ {list : List ℕ} {at t start stop : ℕ} {p : Place} (bytes : Bytes li
       go false e = good_key e
 
   -- it may sign where the search found a pair
-  module _ (packet : List ℕ) {m : Model} {ps : List Component} {r : Found} {path slots after : List ℕ}
+  module _ (packet : List ℕ) {m : Model} {ps : List Component} {r : Answer Nodes} {path after : List ℕ} {slots : List (Answer Span)}
       (good : good_name ps ≡ packet_name packet) (k : GoodKey) (found : FirstPair m ps (row_from key (start - at)) packet key path r slots after) where
     allows_is : {o : Option Pair} → first (pairs m ps (row_from key (start - at))) ≡ o
         → allows m packet (entry list at t start stop) ≡ is_allowed (pair_found o roomy).answer
@@ -94,10 +93,10 @@ module _ {list : List ℕ} {at t start stop : ℕ} {p : Place} (bytes : Bytes li
         let signs = signs_first m packet key roomy (sym good) k.row room ∙ ap (λ o. pair_found o roomy) e in
         rw (← (cut_is bytes st)) (ap (λ (o : SignOutcome). is_allowed o.answer) signs)
 
-    pub pair_allows : {v w : ℕ} → r ≡ At v w → allows m packet (entry list at t start stop) ≡ true
+    pub allows_found : allows m packet (entry list at t start stop) ≡ is_some r
     unfolding pair_found
-    pair_allows e = let (z, p, _) = some_pair found e in allows_is p
-
-    pub no_pair_allows : r ≡ Nothing → allows m packet (entry list at t start stop) ≡ false
-    unfolding pair_found
-    no_pair_allows e = allows_is (no_pair found e)
+    allows_found = go r refl
+      where
+        go : (a : Answer Nodes) → r ≡ a → allows m packet (entry list at t start stop) ≡ is_some a
+        go (Some x) e = let (z, p, _) = some_pair found e in allows_is p
+        go None e = allows_is (no_pair found e)

@@ -6,6 +6,7 @@
 // that can be walked; the search and the follower have made them. Edges may be any bytes.
 #![tactic(auto)]
 
+mod context;
 mod fields;
 pub mod nodes;
 
@@ -15,6 +16,7 @@ ghost use Rattle.lvs_edges.specs.Edges.{edge_of};
 ghost use Rattle.lvs_edges.specs.declared.EdgeKind.TheVariants as kind;
 ghost use Rattle.lvs_edges.specs.Crossing.{Ready, named_slot, same_as, Passed, Crossed, CrossedValue};
 
+pub use context::Context;
 pub use fields::{PatternFields, destination, pattern_fields, value_of};
 use lvs_bindings::names::Names;
 use lvs_bindings::{Slots, Span};

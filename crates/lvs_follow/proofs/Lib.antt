@@ -1,3 +1,2 @@
-pub mod Nth
 pub mod Steps
 pub mod Pairs

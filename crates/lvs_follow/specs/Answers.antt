@@ -1,9 +1,9 @@
--- Each case of an answer's enum, with the numbers and values of docs/format.md.
-use Rattle.lvs_spec.specs.Answers.{FollowAnswer as Following}
-use Rattle.lvs_follow.specs.declared.FollowAnswer.{FollowAnswer}
-use Rattle.lvs_follow.specs.declared.FollowAnswer.TheVariants as followings
+-- Each case of an answer, with the numbers and values of docs/format.md.
+use Rattle.std.specs.Prelude.{Bool, Result, Ok, Err}
+use Rattle.lvs_spec.specs.Answers.{FollowAnswer, followed}
+use Rattle.lvs_spec.specs.Refusals.{refusal_of}
+use Rattle.lvs_spec.specs.declared.refusal.Refusal.{Refusal}
 
-abbrev pub follow_answer_of : FollowAnswer → Following
-follow_answer_of followings.Accepted = Following.accepted
-follow_answer_of followings.No = Following.no
-follow_answer_of (followings.Refused r i) = Following.refused (record { number = r; at = i })
+abbrev pub follow_answer_of : Result Bool Refusal → FollowAnswer
+follow_answer_of (Ok t) = followed t
+follow_answer_of (Err r) = FollowAnswer.refused (refusal_of r)

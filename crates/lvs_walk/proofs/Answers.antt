@@ -25,11 +25,11 @@ use Rattle.lvs_bindings.specs.Names.{name_for}
 use Rattle.lvs_edges.specs.Sides.{row_for}
 use Rattle.lvs_walk.specs.Search.{Hit, listed, worth, hits, first_found, side_of, written, hit_of, First, mapped}
 use Rattle.lvs_walk.specs.Calls.{match_of, FirstMatch, pair_hit, FirstPair}
-use Rattle.lvs_walk.specs.declared.search.Goal.TheVariants.{Match as AnyMatch, Packet}
+use Rattle.lvs_walk.specs.declared.goal.Goal.TheVariants.{Match as AnyMatch, Packet}
 use Rattle.std.specs.declared.option.Option.{Option as Answer}
 use Rattle.std.specs.declared.option.Option.TheVariants.{None, Some}
 use Rattle.lvs_bindings.specs.declared.Span.{Span}
-use Rattle.lvs_walk.specs.declared.search.Pair.{Pair as Nodes}
+use Rattle.lvs_walk.specs.declared.goal.Pair.{Pair as Nodes}
 use Rattle.lvs_walk.proofs.Retold.{retold, retold_first, retold_each}
 use Rattle.lvs_walk.proofs.Words.{written_whole}
 

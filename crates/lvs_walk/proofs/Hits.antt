@@ -13,11 +13,11 @@ use Rattle.lvs_bindings.specs.Slots.{bindings_of}
 use Rattle.lvs_bindings.specs.Names.{name_for}
 use Rattle.lvs_edges.specs.Sides.{row_for}
 use Rattle.lvs_walk.specs.Search.{Hit, listed, worth, hits, first_found, side_of, found_if, Started, written, hit_of, First}
-use Rattle.lvs_walk.specs.declared.search.Goal.{Goal}
-use Rattle.lvs_walk.specs.declared.search.Goal.TheVariants.{Match as AnyMatch, Packet, Key}
+use Rattle.lvs_walk.specs.declared.goal.Goal.{Goal}
+use Rattle.lvs_walk.specs.declared.goal.Goal.TheVariants.{Match as AnyMatch, Packet, Key}
 use Rattle.std.specs.declared.option.Option.{Option as Answer}
 use Rattle.lvs_bindings.specs.declared.Span.{Span}
-use Rattle.lvs_walk.specs.declared.search.Pair.{Pair as Nodes}
+use Rattle.lvs_walk.specs.declared.goal.Pair.{Pair as Nodes}
 use Rattle.std.specs.declared.option.Option.TheVariants.{None, Some}
 
 -- ---- the first answer of a trace

@@ -18,11 +18,11 @@ use Rattle.lvs_edges.specs.declared.Crossing.{Crossing}
 use Rattle.lvs_edges.proofs.Crossed.{crossed_step}
 use Rattle.lvs_edges.proofs.Rows.{Found}
 use Rattle.lvs_walk.specs.Search.{Hit, hits, first_found, side_of, written, hit_of, First, mapped}
-use Rattle.lvs_walk.specs.declared.search.Goal.{Goal}
+use Rattle.lvs_walk.specs.declared.goal.Goal.{Goal}
 use Rattle.std.specs.declared.option.Option.{Option as Answer}
 use Rattle.std.specs.declared.option.Option.TheVariants.{None, Some}
 use Rattle.lvs_bindings.specs.declared.Span.{Span}
-use Rattle.lvs_walk.specs.declared.search.Pair.{Pair as Nodes}
+use Rattle.lvs_walk.specs.declared.goal.Pair.{Pair as Nodes}
 use Rattle.lvs_walk.proofs.Retold.{retold_first}
 use Rattle.lvs_walk.proofs.Ahead.{hit_after, hits_after}
 use Rattle.lvs_walk.proofs.Hits.{found_append, looked_on, found_nothing, tried, hits_step}

@@ -8,7 +8,7 @@ use Rattle.lvs_spec.specs.Walk.{Event}
 use Rattle.lvs_walk.specs.Search.{Hit, written, First}
 use Rattle.std.specs.declared.option.Option.{Option as Answer}
 use Rattle.lvs_bindings.specs.declared.Span.{Span}
-use Rattle.lvs_walk.specs.declared.search.Pair.{Pair as Nodes}
+use Rattle.lvs_walk.specs.declared.goal.Pair.{Pair as Nodes}
 
 -- no word is added
 written_length : (d : ℕ) (p words : List ℕ) → length (written d p words) ≡ length words

@@ -10,7 +10,7 @@ use Rattle.std.specs.declared.option.Option.TheVariants.{None, Some}
 use Rattle.lvs_bindings.specs.Slots.{bindings_of}
 use Rattle.lvs_bindings.specs.declared.Span.{Span}
 use Rattle.lvs_walk.specs.Search.{Hit, mapped, written, hit_of}
-use Rattle.lvs_walk.specs.declared.search.Pair.{Pair as Nodes}
+use Rattle.lvs_walk.specs.declared.goal.Pair.{Pair as Nodes}
 
 -- the match that an answer with these slots stands for, with the edges that it crossed
 abbrev pub match_of : List ℕ → Answer ℕ → List (Answer Span) → List ℕ → Option Match

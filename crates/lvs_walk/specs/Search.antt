@@ -13,9 +13,9 @@ use Rattle.lvs_bindings.specs.Slots.{bindings_of}
 use Rattle.lvs_bindings.specs.declared.Span.{Span}
 use Rattle.lvs_spec.specs.declared.refusal.Side.{Side}
 use Rattle.lvs_spec.specs.declared.refusal.Side.TheVariants as side
-use Rattle.lvs_walk.specs.declared.search.Goal.{Goal}
-use Rattle.lvs_walk.specs.declared.search.Goal.TheVariants.{Match as AnyMatch, Packet, Key}
-use Rattle.lvs_walk.specs.declared.search.Pair.{Pair}
+use Rattle.lvs_walk.specs.declared.goal.Goal.{Goal}
+use Rattle.lvs_walk.specs.declared.goal.Goal.TheVariants.{Match as AnyMatch, Packet, Key}
+use Rattle.lvs_walk.specs.declared.goal.Pair.{Pair}
 
 -- the packet's node, and where the walk ended, at the packet's match itself or at the key's; and the edges crossed, of both names
 pub record Hit : Type 0 where

@@ -7,7 +7,7 @@
 // for is left out.
 #![tactic(auto)]
 
-mod search;
+mod goal;
 
 ghost use Rattle.std.specs.Prelude.{◌≡◌, [], ◌+◌, ◌*◌, ◌≤◌, ◌<◌, length, set};
 ghost use Rattle.lvs_spec.specs.Limits.{max_name_bytes};
@@ -22,9 +22,10 @@ ghost use Rattle.lvs_walk.specs.Calls.{FirstMatch, FirstPair};
 
 use lvs_bindings::Slots;
 use lvs_bindings::names::Names;
+use lvs_edges::Context;
 use lvs_edges::nodes::Nodes;
 use lvs_spec::refusal::Side;
-pub use search::{Goal, Pair, Search};
+pub use goal::{Goal, Pair};
 
 // The name that a goal walks.
 #[tactic(auto, unfolding(crate::specs::Search::side_of))]
@@ -63,7 +64,7 @@ fn put_word(path: &mut [u16], depth: usize, ordinal: usize)
 // The first hit of the walk from `node` on with the components from `at` on; `depth` edges were crossed before. On a hit the slots hold its bindings
 // and the path its words; else no Tag is bound that was not before, and the path is kept.
 fn walk<'a>(
-    search: Search<'a>,
+    search: Context<'a>,
     goal: Goal,
     node: u64,
     at: usize,
@@ -123,7 +124,7 @@ pub fn find_match<'a>(
     requires slots_value { slots.old.spans ≡ clear }
     ensures { FirstMatch (model_of nodes.now.model.now) (row_from name.now from) name.now result slots.new.spans }
 {
-    let search = Search {
+    let search = Context {
         nodes,
         named: nodes.named(),
         names: Names {
@@ -164,7 +165,7 @@ pub fn find_pair<'a>(
         names.entry.packet.now names.entry.key.now path.old result slots.new.spans path.new }
 {
     let start = nodes.start();
-    let search = Search {
+    let search = Context {
         nodes,
         named: nodes.named(),
         names,

@@ -1,37 +1,26 @@
 -- `lvs_follow::follow` meets its contract: what the callees answered says which case of `follow_answer` it is. Assumes nothing.
-use Rattle.std.proofs.Common.{sym, ap, ◌∙◌, arith}
-use Rattle.lvs_spec.specs.Answers.{followed}
+use Rattle.std.proofs.Common.{sym, ap}
+use Rattle.std.proofs.lemmas.Result.{err_from_is_err_and}
+use Rattle.lvs_edges.proofs.Ordered.{walkable}
 use Rattle.lvs_verdict.proofs.Calls.{judged_good, judged_bad}
 use Rattle.lvs_follow.proofs.Pairs.{follow_refused, follow_length, follow_decided}
 use Rattle.lvs_follow.proofs.follow.Goals as goal
 
-pub returns-in-Refused : goal.returns-in-Refused
-returns-in-Refused c =
+pub returns-in_err-rows : goal.returns-in_err-rows
+returns-in_err-rows c =
+    let p = err_from_is_err_and c.from_residual.result c.from_residual.ensures.1 in
+    rw (p.1, p.2) (sym (follow_refused _ _ _ c.args.path.now (judged_bad _ _ _ c.judge_inputs.ensures c.in_err-rows.was)))
+
+pub returns-then-path-rows : goal.returns-then-path-rows
+returns-then-path-rows c =
     let a = c.args in
-    sym (follow_refused a.model.now a.packet.now a.key.now a.path.now
-    (judged_bad a.model.now a.packet.now a.key.now c.judge_inputs.ensures c.in-Refused.is))
+    sym (follow_length a.model.now a.packet.now a.key.now a.path.now (judged_good c.judge_inputs.ensures c.in_ok-rows.was) c.if-path-rows.true)
 
-pub overflow_add-p : goal.overflow_add-p
-overflow_add-p c = let g = judged_good c.judge_inputs.ensures c.in-Good.is in omega (arith, g.packet_row.few, g.key_row.few)
+pub of-nodes-requires : goal.of-nodes-requires
+of-nodes-requires c = walkable c.args.model.now (judged_good c.judge_inputs.ensures c.in_ok-rows.was).accepted
 
-pub returns-then-path-p : goal.returns-then-path-p
-returns-then-path-p c =
+pub returns : goal.returns
+returns c =
     let a = c.args in
-    sym (follow_length a.model.now a.packet.now a.key.now a.path.now (judged_good c.judge_inputs.ensures c.in-Good.is) c.if-path-p.true)
-
-pub follow_pair-requires : goal.follow_pair-requires
-follow_pair-requires c = (judged_good c.judge_inputs.ensures c.in-Good.is, c.if-path-p.false)
-
-pub returns-then-follow_pair : goal.returns-then-follow_pair
-unfolding followed
-returns-then-follow_pair c =
-    let a = c.args in
-    sym (follow_decided a.model.now a.packet.now a.key.now a.path.now (judged_good c.judge_inputs.ensures c.in-Good.is) c.follow_pair.ensures
-    ∙ ap followed c.if-follow_pair.true)
-
-pub returns-else-follow_pair : goal.returns-else-follow_pair
-unfolding followed
-returns-else-follow_pair c =
-    let a = c.args in
-    sym (follow_decided a.model.now a.packet.now a.key.now a.path.now (judged_good c.judge_inputs.ensures c.in-Good.is) c.follow_pair.ensures
-    ∙ ap followed c.if-follow_pair.false)
+    let same = ap (λ b. b.now) c.of-nodes.ensures in
+    sym (follow_decided a.model.now a.packet.now a.key.now a.path.now (judged_good c.judge_inputs.ensures c.in_ok-rows.was) (rw same at c.follow_pair.ensures))
