@@ -15,6 +15,7 @@ use mathlib.Core.Logic.{◌↔◌}
 use mathlib.Core.Bool.{true, false}
 use mathlib.Core.List.{List, [], ◌∷◌, ◌++◌, Memᴰ}
 use mathlib.Core.Option.{some}
+use Rattle.std.specs.Prelude.{Bool, None, Some, Result, Ok, Err}
 use native.Mathlib.Omega.{arith}
 use lib.ListN.{length, take}
 use contract.Lifetimes.{Lfts}
@@ -54,21 +55,14 @@ use Rattle.lvs_spec.proofs.Demand3.{bare_alike, critical_refused, version_refuse
 use Rattle.lvs_spec.proofs.Usable.{usable_accepted, all_refuse}
 use Rattle.lvs_spec.proofs.Critical.{stands}
 use Rattle.lvs_spec.proofs.Optional.{optional_alike}
+use Rattle.lvs_spec.specs.Refusals.{refusal_of}
+use Rattle.lvs_spec.specs.declared.refusal.Refusal.{Refusal}
+use Rattle.lvs_spec.specs.declared.refusal.Refusal.TheVariants as refused
 use Rattle.lvs_edges.proofs.Ordered.{walkable}
-use Rattle.lvs_edges.proofs.Few.{edges_few}
+use Rattle.lvs_edges.proofs.Bodies.{node_edges_few}
 use Rattle.lvs_verdict.specs.Answers.{verdict_of}
-use Rattle.lvs_verdict.specs.declared.Verdict.{Verdict}
-use Rattle.lvs_verdict.specs.declared.Verdict.TheVariants as verdicts
 use Rattle.lvs_follow.specs.Answers.{follow_answer_of}
-use Rattle.lvs_follow.specs.declared.FollowAnswer.{FollowAnswer}
-use Rattle.lvs_follow.specs.declared.FollowAnswer.TheVariants as followings
-use Rattle.lvs.specs.Answers.{match_answer_of, sign_answer_of, suggest_answer_of}
-use Rattle.lvs.specs.declared.MatchAnswer.{MatchAnswer}
-use Rattle.lvs.specs.declared.MatchAnswer.TheVariants as matchings
-use Rattle.lvs.specs.declared.SignAnswer.{SignAnswer}
-use Rattle.lvs.specs.declared.SignAnswer.TheVariants as signings
-use Rattle.lvs.specs.declared.SuggestAnswer.{SuggestAnswer}
-use Rattle.lvs.specs.declared.SuggestAnswer.TheVariants as suggestings
+use Rattle.lvs.specs.Answers.{MatchAnswer, match_answer_of, SignAnswer, sign_answer_of, SuggestAnswer, suggest_answer_of}
 use Rattle.lvs_verdict.proofs.judge_model.Reads as judge-model
 use Rattle.lvs_follow.proofs.follow.Reads as follow
 use Rattle.lvs.proofs.Same.{same_verdict, same_matching, same_signing, same_following, same_suggesting}
@@ -93,7 +87,7 @@ abbrev pub holding : Slice → List ℕ → Slice
 holding s xs = record { ref_ptr = s.ref_ptr; now = xs }
 
 -- a call of `judge_model` with a slice that holds `model` answered r
-pub record Judged (model : List ℕ) (r : Verdict) : Type 0 where
+pub record Judged (model : List ℕ) (r : Result ℕ Refusal) : Type 0 where
   pub lives : Lfts 1
   pub m : Slice
   pub learnt : judge-model.Learnt lives (holding m model, tt) r (holding m model, tt)
@@ -108,7 +102,7 @@ pub record Matched (model name buffer : List ℕ) (r : MatchAnswer) (after : Lis
 
 -- a call of `sign` that was lent the buffers s answered r, and these then held what `after` says
 pub record Signed (model packet key : List ℕ) (s : Buffers) (r : SignAnswer) (after : Buffers) : Type 0 where
-  pub lives : Lfts 4
+  pub lives : Lfts 5
   pub m : Slice
   pub p : Slice
   pub k : Slice
@@ -118,8 +112,8 @@ pub record Signed (model packet key : List ℕ) (s : Buffers) (r : SignAnswer) (
       (holding m model, (holding p packet, (holding k key, (at_last b after.words, (at_last w after.path, tt)))))
 
 -- a call of `follow` answered r
-pub record Followed (model packet key path : List ℕ) (r : FollowAnswer) : Type 0 where
-  pub lives : Lfts 3
+pub record Followed (model packet key path : List ℕ) (r : Result Bool Refusal) : Type 0 where
+  pub lives : Lfts 4
   pub m : Slice
   pub p : Slice
   pub k : Slice
@@ -129,14 +123,14 @@ pub record Followed (model packet key path : List ℕ) (r : FollowAnswer) : Type
 
 -- a call of `suggest` answered r
 pub record Suggested (model packet list : List ℕ) (r : SuggestAnswer) : Type 0 where
-  pub lives : Lfts 2
+  pub lives : Lfts 3
   pub m : Slice
   pub p : Slice
   pub l : Slice
   pub learnt : suggest.Learnt lives (holding m model, (holding p packet, (holding l list, tt))) r (holding m model, (holding p packet, (holding l list, tt)))
 
 -- the answer of each call, and every word of what is lent to it, are those of the definitions
-pub judged_is : {model : List ℕ} {r : Verdict} → Judged model r → verdict_of r ≡ verdict model
+pub judged_is : {model : List ℕ} {r : Result ℕ Refusal} → Judged model r → verdict_of r ≡ verdict model
 judged_is c = c.learnt
 
 pub matched_is : {model name buffer after : List ℕ} {r : MatchAnswer} → Matched model name buffer r after
@@ -147,7 +141,7 @@ pub signed_is : {model packet key : List ℕ} {s after : Buffers} {r : SignAnswe
     → ◌≡◌ {A = SignOutcome} (record { answer = sign_answer_of r; buffers = after }) (sign_outcome model packet key s)
 signed_is c = c.learnt
 
-pub followed_is : {model packet key path : List ℕ} {r : FollowAnswer} → Followed model packet key path r
+pub followed_is : {model packet key path : List ℕ} {r : Result Bool Refusal} → Followed model packet key path r
     → follow_answer_of r ≡ follow_answer model packet key path
 followed_is c = c.learnt
 
@@ -161,23 +155,23 @@ judge_asks_nothing lives m = tt
 pub match_asks_nothing : (lives : Lfts 3) (m n : Slice) (b : Lent) → match-name.Asked lives (m, (n, (b, tt)))
 match_asks_nothing lives m n b = tt
 
-pub sign_asks_nothing : (lives : Lfts 4) (m p k : Slice) (b w : Lent) → sign.Asked lives (m, (p, (k, (b, (w, tt)))))
+pub sign_asks_nothing : (lives : Lfts 5) (m p k : Slice) (b w : Lent) → sign.Asked lives (m, (p, (k, (b, (w, tt)))))
 sign_asks_nothing lives m p k b w = tt
 
-pub follow_asks_nothing : (lives : Lfts 3) (m p k w : Slice) → follow.Asked lives (m, (p, (k, (w, tt))))
+pub follow_asks_nothing : (lives : Lfts 4) (m p k w : Slice) → follow.Asked lives (m, (p, (k, (w, tt))))
 follow_asks_nothing lives m p k w = tt
 
-pub suggest_asks_nothing : (lives : Lfts 2) (m p l : Slice) → suggest.Asked lives (m, (p, (l, tt)))
+pub suggest_asks_nothing : (lives : Lfts 3) (m p l : Slice) → suggest.Asked lives (m, (p, (l, tt)))
 suggest_asks_nothing lives m p l = tt
 
 -- ---- the verdict call
 
 -- a refusal is one of a model
-pub judge_refusals : {model : List ℕ} {number at : ℕ} → Judged model (verdicts.Refused number at) → Memᴰ number model_refusals
+pub judge_refusals : {model : List ℕ} {x : Refusal} → Judged model (Err x) → Memᴰ (refusal_of x).number model_refusals
 judge_refusals {model} c = verdict_number model (sym (judged_is c))
 
 -- it is 2 with the place p exactly when the model is not too long and of no other version, and its first fault is at p
-pub malformed_exactly : {model : List ℕ} {r : Verdict} {p : ℕ} → Judged model r → (r ≡ verdicts.Refused 2 p) ↔ MalformedAt model p
+pub malformed_exactly : {model : List ℕ} {r : Result ℕ Refusal} {p : ℕ} → Judged model r → (r ≡ Err (refused.Malformed p)) ↔ MalformedAt model p
 malformed_exactly {model} {r} c = (
   λ e. refused_malformed model (sym (judged_is c) ∙ ap verdict_of e),
   λ f. same_verdict r _ (judged_is c ∙ malformed_refused model f),
@@ -189,11 +183,11 @@ place_exactly = fault_within
 
 -- the Nodes of an accepted model that edges lead to from the start form a tree: each is reached by one path alone, so that none is its own
 -- descendant and no two edges lead to one
-pub accepted_is_tree : {model : List ℕ} {n : ℕ} → Judged model (verdicts.Accepted n) → IsTree (model_of model)
+pub accepted_is_tree : {model : List ℕ} {n : ℕ} → Judged model (Ok n) → IsTree (model_of model)
 accepted_is_tree {model} c = accepted_tree model (sym (judged_is c))
 
 -- so a name leads to a Node in one way at most, whatever is bound when its walk begins
-pub one_match_a_node : {model : List ℕ} {n : ℕ} → Judged model (verdicts.Accepted n) → (row : List Binding) (s : Bindings) {x y : Match}
+pub one_match_a_node : {model : List ℕ} {n : ℕ} → Judged model (Ok n) → (row : List Binding) (s : Bindings) {x y : Match}
     → Memᴰ x (matches (model_of model) row (begin (model_of model) s)) → Memᴰ y (matches (model_of model) row (begin (model_of model) s))
     → x.node ≡ y.node → x ≡ y
 one_match_a_node {model} c row s = matched_once (model_of model) row s (accepted_is_tree c)
@@ -208,51 +202,51 @@ module _ {model name buffer after : List ℕ} where
   left c = ap (λ (o : Outcome). o.words) (matched_is c)
 
   -- a refused call leaves the buffer as it was, and so does "no match"
-  pub refused_keeps_buffer : {number at : ℕ} → Matched model name buffer (matchings.Refused number at) after → after ≡ buffer
+  pub refused_keeps_buffer : {x : Refusal} → Matched model name buffer (Err x) after → after ≡ buffer
   refused_keeps_buffer c = left c ∙ refused_keeps model name buffer _ (sym (answered c))
 
-  pub no_match_keeps_buffer : Matched model name buffer matchings.NoMatch after → after ≡ buffer
+  pub no_match_keeps_buffer : Matched model name buffer (Ok None) after → after ≡ buffer
   no_match_keeps_buffer c = left c ∙ no_match_keeps model name buffer (sym (answered c))
 
   -- a refusal is one of a model, a packet name or a buffer
-  pub match_refusals_lem : {number at : ℕ} → Matched model name buffer (matchings.Refused number at) after → Memᴰ number match_refusals
+  pub match_refusals_lem : {x : Refusal} → Matched model name buffer (Err x) after → Memᴰ (refusal_of x).number match_refusals
   match_refusals_lem c = match_number model name buffer _ (sym (answered c))
 
   -- a match is answered exactly when there is one
-  pub match_exactly : {r : MatchAnswer} → Matched model name buffer r after → ((v n : ℕ) × (r ≡ matchings.Match v n)) ↔ SomeMatch model name buffer
+  pub match_exactly : {r : MatchAnswer} → Matched model name buffer r after → ((v n : ℕ) × (r ≡ Ok (Some (record { node = v; bound = n })))) ↔ SomeMatch model name buffer
   match_exactly {r} c = (
     λ (v, n, e). (match_some model name buffer).0 (v, n, sym (answered c) ∙ ap match_answer_of e),
     λ s. let (v, n, e) = (match_some model name buffer).1 s in (v, n, same_matching r _ (answered c ∙ e)),
   )
 
   -- "no match" exactly when there is none
-  pub no_match_exactly : {r : MatchAnswer} → Matched model name buffer r after → (r ≡ matchings.NoMatch) ↔ NoMatch model name buffer
+  pub no_match_exactly : {r : MatchAnswer} → Matched model name buffer r after → (r ≡ Ok None) ↔ NoMatch model name buffer
   no_match_exactly {r} c = (
     λ e. (match_none model name buffer).0 (sym (answered c) ∙ ap match_answer_of e),
     λ s. same_matching r _ (answered c ∙ (match_none model name buffer).1 s),
   )
 
   -- it is the first; n Tags are bound, and the buffer holds their places, and after these what it held
-  pub first_match : {v n : ℕ} → Matched model name buffer (matchings.Match v n) after → MatchedBy model name buffer v n after
+  pub first_match : {v n : ℕ} → Matched model name buffer (Ok (Some (record { node = v; bound = n }))) after → MatchedBy model name buffer v n after
   first_match {v} {n} c = rw (left c) (match_matched model name buffer v n (sym (answered c)))
 
   -- the three words of each Tag, suc i, are those of what it is bound to
-  pub match_words : {v n : ℕ} (c : Matched model name buffer (matchings.Match v n) after) (i : ℕ) → i < max_tag
+  pub match_words : {v n : ℕ} (c : Matched model name buffer (Ok (Some (record { node = v; bound = n }))) after) (i : ℕ) → i < max_tag
       → words_at after i ≡ tag_words (bound (first_match c).match.bindings (suc i))
   match_words c = matched_at (first_match c)
 
   -- which is from the packet, and stands in its name where they say
-  pub match_origins : {v n : ℕ} (c : Matched model name buffer (matchings.Match v n) after) → Bytes name → (t : ℕ) {d : Binding}
+  pub match_origins : {v n : ℕ} (c : Matched model name buffer (Ok (Some (record { node = v; bound = n }))) after) → Bytes name → (t : ℕ) {d : Binding}
       → bound (first_match c).match.bindings t ≡ some d → (d.origin ≡ packet_origin) × StandsIn name d.component
   match_origins c = match_stands (first_match c)
 
   -- those of a temporary Tag are 0, and no more Tags are bound than are named
-  pub temporary_words_zero : {v n : ℕ} → Matched model name buffer (matchings.Match v n) after → (i : ℕ) → (model_of model).pattern_count < suc i
+  pub temporary_words_zero : {v n : ℕ} → Matched model name buffer (Ok (Some (record { node = v; bound = n }))) after → (i : ℕ) → (model_of model).pattern_count < suc i
       → suc i ≤ max_tag → words_at after i ≡ 0 ∷ 0 ∷ 0 ∷ []
   unfolding tag_words
   temporary_words_zero c = temporary_words (first_match c)
 
-  pub bound_at_most : {v n : ℕ} → Matched model name buffer (matchings.Match v n) after → n ≤ (model_of model).pattern_count
+  pub bound_at_most : {v n : ℕ} → Matched model name buffer (Ok (Some (record { node = v; bound = n }))) after → n ≤ (model_of model).pattern_count
   bound_at_most c = bound_few (first_match c)
 
 -- the answer does not depend on what the buffer holds, only on its length
@@ -271,25 +265,25 @@ module _ {model packet key : List ℕ} {s after : Buffers} where
   buffers_left c = ap (λ (o : SignOutcome). o.buffers) (signed_is c)
 
   -- a refused call leaves both buffers as they were, and so does "not allowed"
-  pub refused_keeps_buffers : {number at : ℕ} → Signed model packet key s (signings.Refused number at) after → after ≡ s
+  pub refused_keeps_buffers : {x : Refusal} → Signed model packet key s (Err x) after → after ≡ s
   refused_keeps_buffers c = buffers_left c ∙ sign_refused_keeps model packet key s _ (sym (signed_answer c))
 
-  pub not_allowed_keeps_buffers : Signed model packet key s signings.NotAllowed after → after ≡ s
+  pub not_allowed_keeps_buffers : Signed model packet key s (Ok None) after → after ≡ s
   not_allowed_keeps_buffers c = buffers_left c ∙ not_allowed_keeps model packet key s (sym (signed_answer c))
 
   -- a refusal is one of a model, a packet name, a key name, a buffer or a path
-  pub sign_refusals_lem : {number at : ℕ} → Signed model packet key s (signings.Refused number at) after → Memᴰ number sign_refusals
+  pub sign_refusals_lem : {x : Refusal} → Signed model packet key s (Err x) after → Memᴰ (refusal_of x).number sign_refusals
   sign_refusals_lem c = sign_number model packet key s _ (sym (signed_answer c))
 
   -- 27 exactly when no rule refuses model and names and there are too few words for the bindings; 34 exactly when there are enough of these, and too
   -- few for the path
-  pub short_words_exactly : {r : SignAnswer} → Signed model packet key s r after → (r ≡ signings.Refused 27 0) ↔ ShortWords model packet key s
+  pub short_words_exactly : {r : SignAnswer} → Signed model packet key s r after → (r ≡ Err refused.ShortWords) ↔ ShortWords model packet key s
   short_words_exactly {r} c = (
     λ e. (sign_short_words model packet key s).0 (sym (signed_answer c) ∙ ap sign_answer_of e),
     λ w. same_signing r _ (signed_answer c ∙ (sign_short_words model packet key s).1 w),
   )
 
-  pub short_path_exactly : {r : SignAnswer} → Signed model packet key s r after → (r ≡ signings.Refused 34 0) ↔ ShortPath model packet key s
+  pub short_path_exactly : {r : SignAnswer} → Signed model packet key s r after → (r ≡ Err refused.ShortPath) ↔ ShortPath model packet key s
   short_path_exactly {r} c = (
     λ e. (sign_short_path model packet key s).0 (sym (signed_answer c) ∙ ap sign_answer_of e),
     λ w. same_signing r _ (signed_answer c ∙ (sign_short_path model packet key s).1 w),
@@ -298,7 +292,7 @@ module _ {model packet key : List ℕ} {s after : Buffers} where
   -- "allowed" exactly when some packet match, and some key match that starts from its bindings, end at a node and at a signer which
   -- that node lists, and there is room for bindings and path
   pub allowed_exactly : {r : SignAnswer} → Signed model packet key s r after
-      → ((p k : ℕ) × (r ≡ signings.Allowed p k)) ↔ (SomeAllowed model packet key × SignRoom packet key s)
+      → ((p k : ℕ) × (r ≡ Ok (Some (record { packet = p; key = k })))) ↔ (SomeAllowed model packet key × SignRoom packet key s)
   allowed_exactly {r} c = (
     λ (p, k, e). (sign_some model packet key s).0 (p, k, sym (signed_answer c) ∙ ap sign_answer_of e),
     λ a. let (p, k, e) = (sign_some model packet key s).1 a in (p, k, same_signing r _ (signed_answer c ∙ e)),
@@ -306,34 +300,34 @@ module _ {model packet key : List ℕ} {s after : Buffers} where
 
   -- "not allowed" exactly when none do, and there is room
   pub not_allowed_exactly : {r : SignAnswer} → Signed model packet key s r after
-      → (r ≡ signings.NotAllowed) ↔ (NoneAllowed model packet key × SignRoom packet key s)
+      → (r ≡ Ok None) ↔ (NoneAllowed model packet key × SignRoom packet key s)
   not_allowed_exactly {r} c = (
     λ e. (sign_none model packet key s).0 (sym (signed_answer c) ∙ ap sign_answer_of e),
     λ a. same_signing r _ (signed_answer c ∙ (sign_none model packet key s).1 a),
   )
 
   -- the pair is the first: packet matches in order, for each the key matches in order; bindings and path are its own, and later words stay
-  pub first_pair : {p k : ℕ} → Signed model packet key s (signings.Allowed p k) after → SignedBy model packet key s p k after
+  pub first_pair : {p k : ℕ} → Signed model packet key s (Ok (Some (record { packet = p; key = k }))) after → SignedBy model packet key s p k after
   first_pair {p} {k} c = rw (buffers_left c) (sign_allowed model packet key s p k (sym (signed_answer c)))
 
   -- the three words of each Tag, suc i, are those of what it is bound to where the key's walk ended
-  pub pair_words : {p k : ℕ} (c : Signed model packet key s (signings.Allowed p k) after) (i : ℕ) → i < max_tag
+  pub pair_words : {p k : ℕ} (c : Signed model packet key s (Ok (Some (record { packet = p; key = k }))) after) (i : ℕ) → i < max_tag
       → words_at after.words i ≡ tag_words (bound (first_pair c).pair.key.bindings (suc i))
   pair_words c = signed_at (first_pair c)
 
   -- which stands in the name of its origin where they say
-  pub pair_origins : {p k : ℕ} (c : Signed model packet key s (signings.Allowed p k) after) → Bytes packet → Bytes key → (t : ℕ) {d : Binding}
+  pub pair_origins : {p k : ℕ} (c : Signed model packet key s (Ok (Some (record { packet = p; key = k }))) after) → Bytes packet → Bytes key → (t : ℕ) {d : Binding}
       → bound (first_pair c).pair.key.bindings t ≡ some d → Whose packet key d
   pair_origins c = pair_stands (first_pair c)
 
   -- that is where it was first bound: a Tag that the packet bound keeps this, whether the key met it again or not
-  pub origin_first : {p k : ℕ} (c : Signed model packet key s (signings.Allowed p k) after) (t : ℕ)
+  pub origin_first : {p k : ℕ} (c : Signed model packet key s (Ok (Some (record { packet = p; key = k }))) after) (t : ℕ)
       → let by = first_pair c in
       FirstBound by.packet_components by.key_components (bound by.pair.packet.bindings t) (bound by.pair.key.bindings t)
   origin_first c = let by = first_pair c in first_bound by.model by.packet_components by.key_components by.allowed
 
   -- those of a temporary Tag are 0
-  pub temporary_pair_words_zero : {p k : ℕ} → Signed model packet key s (signings.Allowed p k) after → (i : ℕ) → (model_of model).pattern_count < suc i
+  pub temporary_pair_words_zero : {p k : ℕ} → Signed model packet key s (Ok (Some (record { packet = p; key = k }))) after → (i : ℕ) → (model_of model).pattern_count < suc i
       → suc i ≤ max_tag → words_at after.words i ≡ 0 ∷ 0 ∷ 0 ∷ []
   unfolding tag_words
   temporary_pair_words_zero c = temporary_pair_words (first_pair c)
@@ -348,41 +342,41 @@ buffers_unread {model} {packet} {key} {r = r} {q = q} h l c d =
 
 module _ {model packet key path : List ℕ} where
   -- a refusal is one of a model, a packet name or a key name
-  pub follow_refusals_lem : {number at : ℕ} → Followed model packet key path (followings.Refused number at) → Memᴰ number follow_refusals
+  pub follow_refusals_lem : {x : Refusal} → Followed model packet key path (Err x) → Memᴰ (refusal_of x).number follow_refusals
   follow_refusals_lem c = follow_number model packet key path _ (sym (followed_is c))
 
   -- "accepted" exactly when the path has one word for each component, every edge may be crossed, and the end is a signer that the packet's node
   -- lists
-  pub accepted_exactly : {r : FollowAnswer} → Followed model packet key path r → (r ≡ followings.Accepted) ↔ SomeFollowed model packet key path
+  pub accepted_exactly : {r : Result Bool Refusal} → Followed model packet key path r → (r ≡ Ok true) ↔ SomeFollowed model packet key path
   accepted_exactly {r} c = (
     λ e. (follow_some model packet key path).0 (sym (followed_is c) ∙ ap follow_answer_of e),
     λ s. same_following r _ (followed_is c ∙ (follow_some model packet key path).1 s),
   )
 
   -- "no" exactly when that is not so
-  pub no_exactly : {r : FollowAnswer} → Followed model packet key path r → (r ≡ followings.No) ↔ NoneFollowed model packet key path
+  pub no_exactly : {r : Result Bool Refusal} → Followed model packet key path r → (r ≡ Ok false) ↔ NoneFollowed model packet key path
   no_exactly {r} c = (
     λ e. (follow_none model packet key path).0 (sym (followed_is c) ∙ ap follow_answer_of e),
     λ s. same_following r _ (followed_is c ∙ (follow_none model packet key path).1 s),
   )
 
   -- whoever made the path, accepted means allowed: a signing call with room enough says so
-  pub accepted_signs : {s after : Buffers} {r : SignAnswer} → Followed model packet key path followings.Accepted
-      → SignRoom packet key s → Signed model packet key s r after → (p k : ℕ) × (r ≡ signings.Allowed p k)
+  pub accepted_signs : {s after : Buffers} {r : SignAnswer} → Followed model packet key path (Ok true)
+      → SignRoom packet key s → Signed model packet key s r after → (p k : ℕ) × (r ≡ Ok (Some (record { packet = p; key = k })))
   accepted_signs c enough d = (allowed_exactly d).1 (accepted_allowed model packet key path (sym (followed_is c)), enough)
 
 -- the path of an allowed answer is accepted: the first words after it, one for each component
-pub signed_accepted : {model packet key : List ℕ} {s after : Buffers} {p k : ℕ} {r : FollowAnswer}
-    (c : Signed model packet key s (signings.Allowed p k) after)
+pub signed_accepted : {model packet key : List ℕ} {s after : Buffers} {p k : ℕ} {r : Result Bool Refusal}
+    (c : Signed model packet key s (Ok (Some (record { packet = p; key = k }))) after)
     → let by = first_pair c in Followed model packet key (take (length by.packet_components + length by.key_components) after.path) r
-    → r ≡ followings.Accepted
+    → r ≡ Ok true
 signed_accepted {r = r} c f = same_following r _ (followed_is f ∙ path_accepted (first_pair c))
 
 -- so for each allowed pair some path is
 pub record AcceptedPath (model packet key : List ℕ) : Type 0 where
   pub path : List ℕ
   pub words_fit : (w : ℕ) → Memᴰ w path → w < 65536
-  pub accepted : {r : FollowAnswer} → Followed model packet key path r → r ≡ followings.Accepted
+  pub accepted : {r : Result Bool Refusal} → Followed model packet key path r → r ≡ Ok true
 
 pub some_path_accepted : {model packet key : List ℕ} → SomeAllowed model packet key → AcceptedPath model packet key
 some_path_accepted {model} {packet} {key} a =
@@ -392,7 +386,7 @@ some_path_accepted {model} {packet} {key} a =
     let walks = walkable model e in
     record {
       path = w.path;
-      words_fit = λ x i. let l = w.low (length model) (edges_few model walks) i in omega (arith, l, walks.short);
+      words_fit = λ x i. let l = w.low (length model) (node_edges_few model walks) i in omega (arith, l, walks.short);
       accepted = λ {r} f. same_following r _ (followed_is f ∙ w.accepted);
     }
 
@@ -406,40 +400,40 @@ pub record FirstBySigning (model packet list : List ℕ) (i : ℕ) : Type 0 wher
   pub list_is : list ≡ joined (before ++ (key ∷ behind))
   pub index : length before ≡ i
   pub earlier : {k : List ℕ} {s after : Buffers} {r : SignAnswer} → Memᴰ k before → SignRoom packet k s → Signed model packet k s r after
-      → r ≡ signings.NotAllowed
+      → r ≡ Ok None
   pub allowed : {s after : Buffers} {r : SignAnswer} → SignRoom packet key s → Signed model packet key s r after
-      → (p k : ℕ) × (r ≡ signings.Allowed p k)
+      → (p k : ℕ) × (r ≡ Ok (Some (record { packet = p; key = k })))
 
 -- or not to any
 pub record NoneBySigning (model packet list : List ℕ) : Type 0 where
   pub keys : List (List ℕ)
   pub list_is : list ≡ joined keys
   pub none_allowed : {k : List ℕ} {s after : Buffers} {r : SignAnswer} → Memᴰ k keys → SignRoom packet k s → Signed model packet k s r after
-      → r ≡ signings.NotAllowed
+      → r ≡ Ok None
 
 module _ {model packet list : List ℕ} where
   -- a refusal is one of a model, a packet name or a list
-  pub suggest_refusals_lem : {number at : ℕ} → Suggested model packet list (suggestings.Refused number at) → Memᴰ number suggest_refusals
+  pub suggest_refusals_lem : {x : Refusal} → Suggested model packet list (Err x) → Memᴰ (refusal_of x).number suggest_refusals
   suggest_refusals_lem c = suggest_number model packet list _ (sym (suggested_is c))
 
   module _ (bytes : Bytes list) where
     -- the answer is i exactly when certificate i of the list is allowed, as for `sign`, and none before it is
     pub certificate_exactly : {r : SuggestAnswer} {i : ℕ} → Suggested model packet list r
-        → (r ≡ suggestings.Certificate i) ↔ FirstAllowed model packet list i
+        → (r ≡ Ok (Some i)) ↔ FirstAllowed model packet list i
     certificate_exactly {r} c = (
       λ e. (suggest_first model packet list bytes).0 (sym (suggested_is c) ∙ ap suggest_answer_of e),
       λ f. same_suggesting r _ (suggested_is c ∙ (suggest_first model packet list bytes).1 f),
     )
 
     -- "none" exactly when none is
-    pub no_certificate_exactly : {r : SuggestAnswer} → Suggested model packet list r → (r ≡ suggestings.NoCertificate) ↔ NoCertificate model packet list
+    pub no_certificate_exactly : {r : SuggestAnswer} → Suggested model packet list r → (r ≡ Ok None) ↔ NoCertificate model packet list
     no_certificate_exactly {r} c = (
       λ e. (suggest_none model packet list bytes).0 (sym (suggested_is c) ∙ ap suggest_answer_of e),
       λ f. same_suggesting r _ (suggested_is c ∙ (suggest_none model packet list bytes).1 f),
     )
 
     -- it is what one signing call for each certificate comes to
-    pub certificate_signs : {i : ℕ} → Suggested model packet list (suggestings.Certificate i) → FirstBySigning model packet list i
+    pub certificate_signs : {i : ℕ} → Suggested model packet list (Ok (Some i)) → FirstBySigning model packet list i
     certificate_signs c =
         let f = (certificate_exactly c).0 refl in
         record {
@@ -452,7 +446,7 @@ module _ {model packet list : List ℕ} where
           allowed = λ enough s. (allowed_exactly s).1 (f.allowed, enough);
         }
 
-    pub no_certificate_signs : Suggested model packet list suggestings.NoCertificate → NoneBySigning model packet list
+    pub no_certificate_signs : Suggested model packet list (Ok None) → NoneBySigning model packet list
     no_certificate_signs c =
         let f = (no_certificate_exactly c).0 refl in
         record { keys = f.keys; list_is = f.inputs.list_is; none_allowed = λ {k} i enough s. (not_allowed_exactly s).1 (f.none_allowed k i, enough) }
@@ -466,22 +460,22 @@ pub record SameAnswers (a b : List ℕ) : Type 0 where
       → (r ≡ q) × (after ≡ last)
   pub signed : {packet key : List ℕ} {s after last : Buffers} {r q : SignAnswer} → Signed a packet key s r after → Signed b packet key s q last
       → (r ≡ q) × (after ≡ last)
-  pub followed : {packet key path : List ℕ} {r q : FollowAnswer} → Followed a packet key path r → Followed b packet key path q → r ≡ q
+  pub followed : {packet key path : List ℕ} {r q : Result Bool Refusal} → Followed a packet key path r → Followed b packet key path q → r ≡ q
   pub suggested : {packet list : List ℕ} {r q : SuggestAnswer} → Suggested a packet list r → Suggested b packet list q → r ≡ q
 
 -- and the same verdict
 pub record SameCalls (a b : List ℕ) : Type 0 where
-  pub judged : {r q : Verdict} → Judged a r → Judged b q → r ≡ q
+  pub judged : {r q : Result ℕ Refusal} → Judged a r → Judged b q → r ≡ q
   pub answers : SameAnswers a b
 
--- all calls refuse with these two numbers, and leave the buffers as they are
-pub record RefusedCalls (number at : ℕ) (b : List ℕ) : Type 0 where
-  pub judged : {r : Verdict} → Judged b r → r ≡ verdicts.Refused number at
-  pub matched : {name buffer after : List ℕ} {r : MatchAnswer} → Matched b name buffer r after → (r ≡ matchings.Refused number at) × (after ≡ buffer)
+-- all calls refuse so, and leave the buffers as they are
+pub record RefusedCalls (x : Refusal) (b : List ℕ) : Type 0 where
+  pub judged : {r : Result ℕ Refusal} → Judged b r → r ≡ Err x
+  pub matched : {name buffer after : List ℕ} {r : MatchAnswer} → Matched b name buffer r after → (r ≡ Err x) × (after ≡ buffer)
   pub signed : {packet key : List ℕ} {s after : Buffers} {r : SignAnswer} → Signed b packet key s r after
-      → (r ≡ signings.Refused number at) × (after ≡ s)
-  pub followed : {packet key path : List ℕ} {r : FollowAnswer} → Followed b packet key path r → r ≡ followings.Refused number at
-  pub suggested : {packet list : List ℕ} {r : SuggestAnswer} → Suggested b packet list r → r ≡ suggestings.Refused number at
+      → (r ≡ Err x) × (after ≡ s)
+  pub followed : {packet key path : List ℕ} {r : Result Bool Refusal} → Followed b packet key path r → r ≡ Err x
+  pub suggested : {packet list : List ℕ} {r : SuggestAnswer} → Suggested b packet list r → r ≡ Err x
 
 same_answers : {a b : List ℕ} → SameDefined a b → SameAnswers a b
 same_answers s =
@@ -503,7 +497,7 @@ same_calls s =
       answers = same_answers (record { matched = s.matched; signed = s.signed; followed = s.followed; suggested = s.suggested });
     }
 
-refused_calls : {n i : ℕ} {b : List ℕ} → AllRefuse n i b → RefusedCalls n i b
+refused_calls : {x : Refusal} {b : List ℕ} → AllRefuse (refusal_of x).number (refusal_of x).at b → RefusedCalls x b
 unfolding match_refused sign_refused
 refused_calls s =
     record {
@@ -518,8 +512,8 @@ refused_calls s =
       suggested = λ {packet} {list} {r} c. same_suggesting r _ (suggested_is c ∙ s.suggested packet list);
     }
 
--- what the verdict call refuses, all calls refuse with the same two numbers; so each says where a model is malformed
-pub refused_by_all : {model : List ℕ} {number at : ℕ} → Judged model (verdicts.Refused number at) → RefusedCalls number at model
+-- what the verdict call refuses, all calls refuse with the same number and place; so each says where a model is malformed
+pub refused_by_all : {model : List ℕ} {x : Refusal} → Judged model (Err x) → RefusedCalls x model
 refused_by_all {model} c = refused_calls (all_refuse model (sym (judged_is c)))
 
 -- an optional element x in any gap changes no answer and no word, unless the model becomes too long
@@ -532,13 +526,13 @@ pub optional_changes_nothing : (b : List ℕ) (m : Model) → Bytes b → readin
 optional_changes_nothing b m bytes r = same_calls (bare_alike b m bytes r)
 
 -- nor does the text of RuleNames, nor do TagSymbols, in a model that stays accepted
-pub texts_change_nothing : {a b : List ℕ} {i j : ℕ} → Judged a (verdicts.Accepted i) → Judged b (verdicts.Accepted j)
+pub texts_change_nothing : {a b : List ℕ} {i j : ℕ} → Judged a (Ok i) → Judged b (Ok j)
     → unnamed (model_of a) ≡ unnamed (model_of b) → SameAnswers a b
 texts_change_nothing {a} {b} {i} {j} c d e =
     same_answers (accepted_same a b i j (sym (judged_is c)) (sym (judged_is d)) (same_unnamed e))
 
 -- nor does a NamedPatternCnt of 128 or more, which makes every Tag named
-pub large_counts_alike : {a b : List ℕ} {i j : ℕ} → Judged a (verdicts.Accepted i) → Judged b (verdicts.Accepted j)
+pub large_counts_alike : {a b : List ℕ} {i j : ℕ} → Judged a (Ok i) → Judged b (Ok j)
     → max_tag ≤ (model_of a).pattern_count → max_tag ≤ (model_of b).pattern_count → counted max_tag (model_of a) ≡ counted max_tag (model_of b)
     → SameAnswers a b
 large_counts_alike {a} {b} {i} {j} c d l k e =
@@ -546,11 +540,11 @@ large_counts_alike {a} {b} {i} {j} c d l k e =
 
 -- a critical element x in any gap makes all calls refuse with 2 and the very place where x stands then, unless the model becomes too long
 pub critical_refuses : (b b' : List ℕ) (m : Model) (x : Element) → reading b ≡ describes m → meaning x.type ≡ critical
-    → type_in_range x.type ≡ true → (i : Inserted x b b') → length b' ≤ max_model_bytes → RefusedCalls 2 (gap_place i) b' × Stands x (gap_place i) b'
+    → type_in_range x.type ≡ true → (i : Inserted x b b') → length b' ≤ max_model_bytes → RefusedCalls (refused.Malformed (gap_place i)) b' × Stands x (gap_place i) b'
 critical_refuses b b' m x r c t i l = (refused_calls (critical_refused b b' m x r c t i l), stands i)
 
 -- another version, after optional elements and before any bytes, makes all refuse with 3, unless the model is too long
 pub other_version_refuses : (es : List Element) (v rest : List ℕ) → Each InRange es → Each (λ e. meaning e.type ≡ optional) es → length v ≡ 4
     → ¬ (v ≡ this_version)
-    → let b : List ℕ = encode es ++ (element_bytes (record { type = type.Version; inside = v }) ++ rest) in length b ≤ max_model_bytes → RefusedCalls 3 0 b
+    → let b : List ℕ = encode es ++ (element_bytes (record { type = type.Version; inside = v }) ++ rest) in length b ≤ max_model_bytes → RefusedCalls refused.OtherVersion b
 other_version_refuses es v rest f o n other l = refused_calls (version_refused es v rest f o n other l)

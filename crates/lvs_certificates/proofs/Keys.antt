@@ -30,7 +30,7 @@ use Rattle.lvs_bindings.specs.declared.Span.{Span}
 use Rattle.lvs_names.proofs.Alone.{cut_is, cut_element}
 use Rattle.lvs_names.proofs.Names.{good_row}
 use Rattle.lvs_walk.specs.Calls.{FirstPair}
-use Rattle.lvs_walk.specs.declared.search.Pair.{Pair as Nodes}
+use Rattle.lvs_walk.specs.declared.goal.Pair.{Pair as Nodes}
 use Rattle.lvs_walk.proofs.Answers.{no_pair, some_pair}
 use Rattle.lvs_certificates.proofs.Entries.{entry, Sought, sought_here}
 

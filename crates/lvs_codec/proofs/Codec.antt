@@ -35,7 +35,8 @@ use Rattle.lvs_description.proofs.Calls.{Writing, no_description_lem, refused_by
 use Rattle.lvs_description.proofs.Calls.{Room, Describing, refused_model, short_lists, on_lists, DescribedBy}
 use Rattle.lvs_codec.specs.Answers.{write_answer_of, describe_answer_of}
 use Rattle.lvs_describe.specs.declared.Lengths.{Lengths}
-use Rattle.lvs_codec.proofs.Same.{same_refusal, refusing, refusing_list, same_writing, same_describing}
+use Rattle.lvs.proofs.Same.{same_refusal}
+use Rattle.lvs_codec.proofs.Same.{refusing, refusing_list, same_writing, same_describing}
 use Rattle.lvs_codec.proofs.write_model.Reads as write-model
 use Rattle.lvs_codec.proofs.describe_model.Reads as describe-model
 

@@ -5,6 +5,7 @@ use mathlib.Core.Bool.{Bool, true, false}
 use mathlib.Core.List.{List}
 use mathlib.Core.Option as math
 use lib.ListN.{length, take, drop}
+use Rattle.std.specs.Prelude.{Ok}
 use Rattle.std.specs.declared.option.Option.{Option as Answer}
 use Rattle.std.specs.declared.option.Option.TheVariants.{None, Some}
 use Rattle.tlv.specs.Lists.{guard, is_some}
@@ -22,6 +23,7 @@ use Rattle.lvs_bindings.specs.declared.Span.{Span}
 use Rattle.lvs_bindings.proofs.Bound.{none_bound}
 use Rattle.lvs_edges.specs.Sides.{row_for}
 use Rattle.lvs_verdict.specs.Answers.{GoodInputs}
+use Rattle.lvs_follow.specs.Answers.{follow_answer_of}
 use Rattle.lvs_follow.specs.Following.{Led}
 
 -- ---- both names
@@ -84,12 +86,18 @@ module _ (model packet key path : List ℕ) where
     follow_good = ap (λ i. follow_with i path) g.is
 
     -- a word for each component
-    pub follow_length : (length path ≡ p.count + k.count → ⊥) → follow_answer model packet key path ≡ followed false
+    pub follow_length : (length path ≡ p.count + k.count → ⊥) → follow_answer model packet key path ≡ FollowAnswer.no
+    unfolding followed
     follow_length n =
         let other = other_length (model_of model) (row_from packet p.start) (row_from key k.start) path
         (λ e. n (e ∙ rw (g.packet_row.count, g.key_row.count))) in
         follow_good ∙ rw other
 
     pub follow_decided : {t : Bool} → t ≡ is_some (follow_pair (model_of model) (row_from packet p.start) (row_from key k.start) path)
-        → follow_answer model packet key path ≡ followed t
-    follow_decided e = follow_good ∙ ap followed (sym e)
+        → follow_answer model packet key path ≡ follow_answer_of (Ok t)
+    unfolding followed
+    follow_decided {t} e = follow_good ∙ ap followed (sym e) ∙ go t
+      where
+        go : (t : Bool) → followed t ≡ follow_answer_of (Ok t)
+        go true = refl
+        go false = refl

@@ -113,12 +113,7 @@ fn follow_pair<'a>(nodes: &'a Nodes<'a>, names: Names<'a>, rows: Inputs, path: &
 }
 
 /// Whether a path shows that the key name may sign the packet name.
-pub fn follow<'a>(
-    model: &'a [u8],
-    packet: &'a [u8],
-    key: &'a [u8],
-    path: &[u16],
-) -> Result<bool, Refusal>
+pub fn follow(model: &[u8], packet: &[u8], key: &[u8], path: &[u16]) -> Result<bool, Refusal>
     ensures { follow_answer_of result ≡ follow_answer model.now packet.now key.now path.now }
 {
     let rows = lvs_verdict::judge_inputs(model, packet, key)?;

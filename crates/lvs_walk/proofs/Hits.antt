@@ -18,7 +18,7 @@ use Rattle.lvs_walk.specs.declared.goal.Goal.TheVariants.{Match as AnyMatch, Pac
 use Rattle.std.specs.declared.option.Option.{Option as Answer}
 use Rattle.lvs_bindings.specs.declared.Span.{Span}
 use Rattle.lvs_walk.specs.declared.goal.Pair.{Pair as Nodes}
-use Rattle.std.specs.declared.option.Option.TheVariants.{None, Some}
+use Rattle.std.specs.declared.option.Option.TheVariants.{Some}
 
 -- ---- the first answer of a trace
 

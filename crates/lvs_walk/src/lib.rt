@@ -20,12 +20,12 @@ ghost use Rattle.lvs_edges.specs.Sides.{row_for};
 ghost use Rattle.lvs_walk.specs.Search.{hits, side_of, found_if, Started, bytes_left, First};
 ghost use Rattle.lvs_walk.specs.Calls.{FirstMatch, FirstPair};
 
+pub use goal::{Goal, Pair};
 use lvs_bindings::Slots;
 use lvs_bindings::names::Names;
 use lvs_edges::Context;
 use lvs_edges::nodes::Nodes;
 use lvs_spec::refusal::Side;
-pub use goal::{Goal, Pair};
 
 // The name that a goal walks.
 #[tactic(auto, unfolding(crate::specs::Search::side_of))]

@@ -1,5 +1,6 @@
 -- `lvs::sign` meets its contract: what the callees answered says which case of `sign_outcome` it is. Assumes nothing.
-use Rattle.std.proofs.Common.{List, ℕ, refl, sym, arith}
+use Rattle.std.proofs.Common.{List, ℕ, sym, ap}
+use Rattle.std.proofs.lemmas.Result.{err_from_is_err_and}
 use Rattle.lvs_spec.specs.Answers.{Buffers, sign_refused}
 use Rattle.lvs_edges.proofs.Ordered.{walkable}
 use Rattle.lvs_verdict.proofs.Calls.{judged_good, judged_bad}
@@ -10,47 +11,47 @@ use Rattle.lvs.proofs.sign.Goals as goal
 abbrev lent : List ℕ → List ℕ → Buffers
 lent words path = record { words = words; path = path }
 
-pub returns-in-Refused : goal.returns-in-Refused
+pub returns-in_err-rows : goal.returns-in_err-rows
 unfolding sign_refused
-returns-in-Refused c =
+returns-in_err-rows c =
     let a = c.args in
-    sym (sign_refused_lem a.model.now a.packet.now a.key.now (lent a.words.now a.path.now)
-    (judged_bad a.model.now a.packet.now a.key.now c.judge_inputs.ensures c.in-Refused.is))
+    let p = err_from_is_err_and c.from_residual.result c.from_residual.ensures.1 in
+    rw (p.1, p.2)
+    (sym (sign_refused_lem a.model.now a.packet.now a.key.now (lent a.words.now a.path.now)
+    (judged_bad a.model.now a.packet.now a.key.now c.judge_inputs.ensures c.in_err-rows.was)))
 
 pub returns-then-words-lt-BINDING_WORDS : goal.returns-then-words-lt-BINDING_WORDS
 unfolding sign_refused
 returns-then-words-lt-BINDING_WORDS c =
     let a = c.args in
-    sym (sign_no_words a.model.now a.packet.now a.key.now (lent a.words.now a.path.now) (judged_good c.judge_inputs.ensures c.in-Good.is)
+    sym (sign_no_words a.model.now a.packet.now a.key.now (lent a.words.now a.path.now) (judged_good c.judge_inputs.ensures c.in_ok-rows.was)
     c.if-words-lt-BINDING_WORDS.true)
 
-pub overflow_add-p : goal.overflow_add-p
-overflow_add-p c = let g = judged_good c.judge_inputs.ensures c.in-Good.is in omega (arith, g.packet_row.few, g.key_row.few)
-
-pub returns-then-path-p : goal.returns-then-path-p
+pub returns-then-path-rows : goal.returns-then-path-rows
 unfolding sign_refused
-returns-then-path-p c =
+returns-then-path-rows c =
     let a = c.args in
-    sym (sign_no_room a.model.now a.packet.now a.key.now (lent a.words.now a.path.now) (judged_good c.judge_inputs.ensures c.in-Good.is)
-    c.if-words-lt-BINDING_WORDS.false c.if-path-p.true)
+    sym (sign_no_room a.model.now a.packet.now a.key.now (lent a.words.now a.path.now) (judged_good c.judge_inputs.ensures c.in_ok-rows.was)
+    c.if-words-lt-BINDING_WORDS.false c.if-path-rows.true)
 
-pub node_places-requires : goal.node_places-requires
-node_places-requires c =
-    record { walkable = walkable c.args.model.now (judged_good c.judge_inputs.ensures c.in-Good.is).accepted; places_value = refl }
+pub of-nodes-requires : goal.of-nodes-requires
+of-nodes-requires c = walkable c.args.model.now (judged_good c.judge_inputs.ensures c.in_ok-rows.was).accepted
 
 pub find_pair-requires : goal.find_pair-requires
 find_pair-requires c =
-    let g = judged_good c.judge_inputs.ensures c.in-Good.is in
-    record { nodes_at = c.node_places.ensures; packet_len_bound = (g.packet_row.short, g.key_row.short, refl) }
+    let g = judged_good c.judge_inputs.ensures c.in_ok-rows.was in
+    record { packet_len_bound = g.packet_row.short; key_len_bound = g.key_row.short; slots_value = c.new-slots.ensures }
 
-pub returns-in-Nothing : goal.returns-in-Nothing
-returns-in-Nothing c =
+pub returns-in-None : goal.returns-in-None
+returns-in-None c =
     let a = c.args in
-    sign_none a.model.now a.packet.now a.key.now (lent a.words.now a.path.now) (judged_good c.judge_inputs.ensures c.in-Good.is)
-    c.if-words-lt-BINDING_WORDS.false c.if-path-p.false c.find_pair.ensures c.in-Nothing.is
+    let same = ap (λ m. m.now) c.of-nodes.ensures in
+    sign_none a.model.now a.packet.now a.key.now (lent a.words.now a.path.now) (judged_good c.judge_inputs.ensures c.in_ok-rows.was)
+    c.if-words-lt-BINDING_WORDS.false c.if-path-rows.false (rw same at c.find_pair.ensures) c.in-None.is
 
-pub returns-in-At : goal.returns-in-At
-returns-in-At c =
+pub returns-in-Some : goal.returns-in-Some
+returns-in-Some c =
     let a = c.args in
-    sign_some a.model.now a.packet.now a.key.now (lent a.words.now a.path.now) (judged_good c.judge_inputs.ensures c.in-Good.is)
-    c.if-words-lt-BINDING_WORDS.false c.if-path-p.false c.find_pair.ensures c.in-At.is c.write_words.ensures
+    let same = ap (λ m. m.now) c.of-nodes.ensures in
+    sign_some a.model.now a.packet.now a.key.now (lent a.words.now a.path.now) (judged_good c.judge_inputs.ensures c.in_ok-rows.was)
+    c.if-words-lt-BINDING_WORDS.false c.if-path-rows.false (rw same at c.find_pair.ensures) c.in-Some.is c.write_words.ensures

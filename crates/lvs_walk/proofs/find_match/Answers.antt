@@ -1,5 +1,5 @@
 -- `lvs_walk::find_match` meets its contract. Assumes nothing.
-use Rattle.std.proofs.Common.{ap, arith}
+use Rattle.std.proofs.Common.{arith}
 use Rattle.lvs_bindings.specs.Names.{name_for}
 use Rattle.lvs_walk.specs.Search.{side_of}
 use Rattle.lvs_walk.proofs.Answers.{clear_named, match_first}
