@@ -1,5 +1,5 @@
 // Where the inside of a container is malformed first (docs/format.md, 5.3). Places are counted from its start.
-ghost use Rattle.std.specs.Prelude.{suc, ◌≤◌, ◌≡◌, length};
+ghost use Rattle.std.specs.Prelude.{◌+◌, IfErr, suc, ◌≤◌, ◌≡◌, length};
 ghost use Rattle.std.proofs.Math.Option.{some};
 ghost use Rattle.lvs_spec.specs.Limits.{max_model_bytes};
 ghost use Rattle.lvs_spec.specs.Places as places;
@@ -32,6 +32,18 @@ pub(crate) fn fault_at(place: usize) -> Result<(), Fault>
     Err(Fault {
         place: place as u32,
     })
+}
+
+// A place in an inside, counted from where that starts, from further out.
+#[inline(always)]
+fn counted_from(start: usize, found: Result<(), Fault>) -> Result<(), Fault>
+    requires { IfErr found (λ fault. start + fault.place ≤ max_model_bytes) }
+    ensures { fault_of result ≡ places.from start (fault_of found) }
+{
+    match found {
+        Ok(()) => Ok(()),
+        Err(fault) => fault_at(start + fault.place as usize),
+    }
 }
 
 // Whether there is no fault in the whole inside of a container of this kind, read to at most this depth; else the first.
@@ -78,11 +90,10 @@ fn first_fault(s: &[u8], kind: Kind, below: u8) -> Result<(), Fault>
                         let inside = &s[start..end];
                         match known {
                             Known::Plain(leaf) => leaf_fault(inside, at, start, kind, leaf)?,
-                            Known::Container(inner) => {
-                                if let Err(fault) = fault_in(inside, inner, below) {
-                                    return fault_at(start + fault.place as usize);
-                                }
-                            }
+                            Known::Container(inner) => counted_from(
+                                start,
+                                fault_in(inside, inner, below),
+                            )?,
                         }
                     }
                 }
