@@ -59,7 +59,8 @@ pub(crate) fn fault_in(s: &[u8], kind: Kind, depth: u8) -> Result<(), Fault>
 }
 
 // The same, where the containers in it are read to at most the depth `below`. Plain elements and containers are told apart here and not in a
-// function of its own, because that takes fewer instructions.
+// function of its own, because that takes fewer instructions. The loop needs the elements' places, and the end of the bytes told from bytes that no
+// element begins with, which an iterator does not give.
 #[cycle(fault_in_first_fault)]
 fn first_fault(s: &[u8], kind: Kind, below: u8) -> Result<(), Fault>
     requires { length s.now ≤ max_model_bytes }
