@@ -1,112 +1,96 @@
-// Standard input, read ahead into a buffer that is lent.
-ghost use Rattle.std.specs.Prelude.{◌≤◌, length};
-ghost use Rattle.io.specs.Counts.{IsPrefixLen};
+//! The cases, read ahead into a buffer on the stack: that of std's `BufReader` would be on the heap.
+ghost use Rattle.std.specs.Prelude.{◌≡◌, ◌-◌, ◌≤◌, ◌<◌, ◌++◌, min, length, take, IfOk, OnOk};
+ghost use Rattle.std.specs.Io.KnownBytes.{Keeps, Consumes, IsAtEnd};
 
-use crate::{Buffer, STDIN_FILENO};
+use std::io;
+use std::io::Read;
 
-// The bytes of the buffer from at to end are read and not taken yet.
-#[derive(Clone, Copy)]
-pub struct Input {
-    pub at: usize,
-    pub end: usize,
+/// Why a case has no answer: it is cut, or a field is not what the call takes.
+#[derive(Clone, Copy, Debug, PartialEq, Eq)]
+pub struct Broken;
+
+/// A read that fails ends the input.
+impl From<io::Error> for Broken {
+    fn from(_e: io::Error) -> Broken {
+        Broken
+    }
 }
 
-// How many bytes were taken: fewer than asked where the input ends.
-#[derive(Clone, Copy)]
-pub struct Taken {
-    pub count: usize,
-    pub input: Input,
+/// The bytes of `ahead` from `at` to `end` are read and not taken yet.
+#[derive(Drop)]
+pub struct CaseReader<R> {
+    source: R,
+    ahead: [u8; 65536],
+    at: usize,
+    end: usize,
+    ghost taken: { at ≤ end },
+    ghost within: { end ≤ 65536 },
 }
 
-// The bytes of a case's field at the start of what was lent for it, and whether these are all of it.
-#[derive(Clone, Copy)]
-pub struct Field {
-    pub is_whole: bool,
-    pub count: usize,
-    pub input: Input,
-}
+impl<R: Read> CaseReader<R> {
+    ghost use Rattle.lvs_cases.specs.Reading.{left};
 
-// Fills part with the next bytes.
-pub fn take(space: &mut Buffer, from: Input, part: &mut [u8]) -> Taken
-    requires { from.end ≤ 65536 }
-    ensures { (result.count ≤ length part.new) × (result.input.end ≤ 65536) }
-{
-    let mut input = from;
-    let mut count = 0;
-    while count < part.len() {
-        input = read_ahead(space, input);
-        let at = input.at;
-        let end = input.end;
-        if at >= end {
-            return Taken { count, input };
+    pub fn new(source: R) -> CaseReader<R>
+        ensures { left R.remaining result ≡ R.remaining source }
+    {
+        CaseReader {
+            source,
+            ahead: [0; 65536],
+            at: 0,
+            end: 0,
         }
-        part[count] = space[at];
-        input = Input { at: at + 1, end };
-        count += 1;
     }
-    Taken { count, input }
-}
 
-// Reads once more where everything has been taken; at the end of the input that gives nothing.
-fn read_ahead(space: &mut Buffer, input: Input) -> Input
-    requires { input.end ≤ 65536 }
-    ensures { result.end ≤ 65536 }
-{
-    if input.at < input.end {
-        return input;
-    }
-    Input {
-        at: 0,
-        end: read_some(space),
+    pub fn array<const N: usize>(&mut self) -> Result<[u8; N], Broken>
+        ensures { IfOk result (λ bytes. Consumes (left R.remaining self.old) (left R.remaining self.new) bytes) }
+    {
+        let mut bytes = [0; N];
+        // The same as below, and quicker where all of it is read ahead: most reads are of a number.
+        if N <= self.end - self.at {
+            self.take_ahead(&mut bytes);
+            return Ok(bytes);
+        }
+        self.read_exact(&mut bytes)?;
+        Ok(bytes)
     }
 }
 
-// One read, of as much as fits.
-fn read_some(space: &mut Buffer) -> usize
-    ensures { result ≤ 65536 }
-{
-    io::read_full(STDIN_FILENO, space)
-}
+impl<R: Read> CaseReader<R> {
+    ghost use Rattle.lvs_cases.specs.Reading.{ahead_bytes, left};
 
-// Takes a 4-byte length (high byte first) and that many bytes. A length above what part holds is not a whole field.
-pub fn take_field(space: &mut Buffer, input: Input, part: &mut [u8]) -> Field
-    requires { input.end ≤ 65536 }
-    ensures { IsPrefixLen result.count part.new × (result.input.end ≤ 65536) }
-{
-    let mut head = [0u8; 4];
-    let taken = take(space, input, &mut head);
-    let behind = taken.input;
-    if taken.count < 4 {
-        return Field {
-            is_whole: false,
-            count: 0,
-            input: behind,
-        };
+    /// Reads once more where everything has been taken. At the end of the input that gives nothing.
+    fn fill(&mut self) -> io::Result<()>
+        ensures bytes { Keeps (left R.remaining self.old) (left R.remaining self.new) }
+        ensures end { OnOk result (self.new.end ≤ self.new.at → IsAtEnd (R.remaining self.new.source)) }
+    {
+        if self.at == self.end {
+            self.at = 0;
+            self.end = 0;
+            self.end = self.source.read(&mut self.ahead)?;
+        }
+        Ok(())
     }
-    let n = number_of(&head);
-    if n > part.len() {
-        return Field {
-            is_whole: false,
-            count: 0,
-            input: behind,
-        };
-    }
-    let inside = take(space, behind, &mut part[..n]);
-    let count = inside.count;
-    let next = inside.input;
-    Field {
-        is_whole: count == n,
-        count,
-        input: next,
+
+    /// Takes as many bytes as are read ahead and `part` has room for.
+    fn take_ahead(&mut self, part: &mut [u8]) -> usize
+        ensures count { result ≡ min (self.old.end - self.old.at) (length part.old) }
+        ensures source { self.new.source ≡ self.old.source }
+        ensures bytes { ahead_bytes self.old ≡ take result part.new ++ ahead_bytes self.new }
+    {
+        let count = part.len().min(self.end - self.at);
+        part[..count].copy_from_slice(&self.ahead[self.at..self.at + count]);
+        self.at += count;
+        count
     }
 }
 
-fn number_of(head: &[u8; 4]) -> usize {
-    ((wide(head[0]) * 256 + wide(head[1])) * 256 + wide(head[2])) * 256 + wide(head[3])
-}
+impl<R: Read> Read for CaseReader<R> {
+    ghost use Rattle.lvs_cases.specs.Reading.{left};
 
-fn wide(b: u8) -> usize
-    ensures { result ≤ 255 }
-{
-    b as usize
+    ghost remaining = { left R.remaining };
+
+    fn read(&mut self, part: &mut [u8]) -> io::Result<usize> {
+        self.fill()?;
+        Ok(self.take_ahead(part))
+    }
 }

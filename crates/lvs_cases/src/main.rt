@@ -21,120 +21,76 @@
 // anything but one component, a cut case or another letter prints `broken` and ends.
 #![tactic(auto)]
 
-ghost use Rattle.std.specs.Prelude.{◌≤◌};
-
-mod comparing;
-mod describing;
+mod answers;
+mod fields;
 mod input;
-mod judging;
-mod matching;
 mod output;
-mod pairs;
-mod suggesting;
-mod turn;
-mod words;
-mod writing;
 
-use input::Input;
-use pairs::Call;
-use turn::Turn;
+use answers::Driver;
+use input::{Broken, CaseReader};
+use output::AnswerWriter;
+use std::io;
+use std::io::{Read, Write};
 
-// Standard input and output, as file descriptors.
-const STDIN_FILENO: i32 = 0;
-
-const STDOUT_FILENO: i32 = 1;
-
-// The longest name.
-const NAME_BYTES: usize = 4096;
-
-// For what is read ahead, for a field, and for lines that are not written yet.
-type Buffer = [u8; 65536];
-
-// The numbers of a field.
-type Numbers = [u64; 8192];
-
-fn main() {
-    let mut space = [0u8; 65536];
-    let mut model = [0u8; 65536];
-    let mut numbers = [0u64; 8192];
-    let mut texts = [0u8; 65536];
-    let mut out = [0u8; 65536];
-    answer_input(&mut space, &mut model, &mut numbers, &mut texts, &mut out);
+/// What is lent to the calls: for the first field, for numbers, and for another field.
+#[derive(Drop)]
+struct Memory {
+    model: [u8; 65536],
+    numbers: [u64; 8192],
+    texts: [u8; 65536],
 }
 
-fn answer_input(
-    space: &mut Buffer,
-    model: &mut Buffer,
-    numbers: &mut Numbers,
-    texts: &mut Buffer,
-    out: &mut Buffer,
-) {
-    let used = answer_cases(space, model, numbers, texts, out);
-    output::flush(out, used);
+fn main(rt: HostRuntime) {
+    let mut memory = Memory {
+        model: [0; 65536],
+        numbers: [0; 8192],
+        texts: [0; 65536],
+    };
+    let mut driver = Driver {
+        input: CaseReader::new(rt.stdin()),
+        out: AnswerWriter::new(io::writer(&rt)),
+    };
+    answer_cases(&mut driver, &mut memory);
+    driver.out.flush();
 }
 
-// Nothing bounds the input, so the loop counts its turns down, from a number that no run exhausts.
-fn answer_cases(
-    space: &mut Buffer,
-    model: &mut Buffer,
-    numbers: &mut Numbers,
-    texts: &mut Buffer,
-    out: &mut Buffer,
-) -> usize
-    ensures { result ≤ 65536 }
-{
-    let mut input = Input { at: 0, end: 0 };
-    let mut used = 0;
-    let mut turns = u64::MAX;
-    while turns > 0 {
-        turns -= 1;
-        let mut letter = [0u8; 1];
-        let taken = input::take(space, input, &mut letter);
-        if taken.count == 0 {
-            return used;
+/// Answers case after case, to the end of the input or the first broken one. No run exhausts the range.
+fn answer_cases<R: Read, W: Write>(driver: &mut Driver<R, W>, memory: &mut Memory) {
+    for _ in 0..u64::MAX {
+        let Some(letter) = driver.input.letter() else {
+            return;
+        };
+        if answer_case(letter, driver, memory).is_err() {
+            driver.out.put("broken\n");
+            return;
         }
-        let behind = taken.input;
-        let turn = answer_case(letter[0], space, behind, model, numbers, texts, out, used);
-        if !turn.is_whole {
-            return output::put(out, turn.used, b"broken\n");
-        }
-        input = turn.input;
-        used = turn.used;
     }
-    used
 }
 
-// All but `W` begin with a model, or a component in its place; the output of `W` goes there.
-fn answer_case(
+/// All but `W` begin with a model, or a component in its place; the output of `W` goes there. Each letter takes other buffers.
+fn answer_case<R: Read, W: Write>(
     letter: u8,
-    space: &mut Buffer,
-    input: Input,
-    model: &mut [u8],
-    numbers: &mut [u64],
-    texts: &mut [u8],
-    out: &mut Buffer,
-    used: usize,
-) -> Turn
-    requires { (input.end ≤ 65536) × (used ≤ 65536) }
-    ensures { (result.input.end ≤ 65536) × (result.used ≤ 65536) }
-{
+    driver: &mut Driver<R, W>,
+    memory: &mut Memory,
+) -> Result<(), Broken> {
+    let Memory {
+        model,
+        numbers,
+        texts,
+    } = memory;
     if letter == b'W' {
-        return writing::answer(space, input, numbers, texts, model, out, used);
+        return driver.write(numbers, texts, model);
     }
-    let field = input::take_field(space, input, model);
-    let behind = field.input;
-    if !field.is_whole {
-        return turn::broken(behind, used);
-    }
-    let n = field.count;
+    let model = driver.input.field(model)?;
     match letter {
-        b'V' => judging::answer(behind, &model[..n], out, used),
-        b'M' => matching::answer(space, behind, &model[..n], out, used),
-        b'S' => pairs::answer(Call::Sign, space, behind, &model[..n], out, used),
-        b'P' => pairs::answer(Call::Follow, space, behind, &model[..n], out, used),
-        b'C' => suggesting::answer(space, behind, &model[..n], texts, out, used),
-        b'D' => describing::answer(space, behind, &model[..n], numbers, texts, out, used),
-        b'E' => comparing::answer(space, behind, &model[..n], texts, out, used),
-        _ => turn::broken(behind, used),
+        b'V' => driver.judge(model),
+        b'M' => driver.match_name(model)?,
+        b'S' => driver.sign(model)?,
+        b'P' => driver.follow(model)?,
+        b'C' => driver.suggest(model, texts)?,
+        b'D' => driver.describe(model, numbers, texts)?,
+        b'E' => driver.compare(model, texts)?,
+        _ => return Err(Broken),
     }
+    Ok(())
 }

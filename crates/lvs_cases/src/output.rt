@@ -1,173 +1,106 @@
-// Standard output through a lent buffer, of which `used` bytes are not written yet.
-ghost use Rattle.std.specs.Prelude.{◌≤◌, ◌<◌, length};
+//! The lines, gathered in a buffer on the stack: that of std's `BufWriter` would be on the heap.
+ghost use Rattle.std.specs.Prelude.{◌≡◌, ◌+◌, ◌≤◌, ◌++◌, length};
 
-use crate::{Buffer, STDOUT_FILENO};
+use std::fmt;
+use std::fmt::{Display, Write as _};
+use std::io::Write;
 
-// Appends text, and answers how much is used then.
-pub fn put(out: &mut Buffer, used: usize, text: &[u8]) -> usize
-    requires { used ≤ 65536 }
-    ensures { result ≤ 65536 }
-{
-    let mut at = used;
-    let mut i = 0;
-    while i < text.len() {
-        at = room(out, at);
-        out[at] = text[i];
-        at += 1;
-        i += 1;
+/// The first `used` bytes of `gathered` are not written yet.
+#[derive(Drop)]
+pub struct AnswerWriter<W> {
+    to: W,
+    gathered: [u8; 65536],
+    used: usize,
+    ghost within: { used ≤ 65536 },
+}
+
+impl<W: Write> AnswerWriter<W> {
+    pub fn new(to: W) -> AnswerWriter<W> {
+        AnswerWriter {
+            to,
+            gathered: [0; 65536],
+            used: 0,
+        }
     }
-    at
-}
 
-// The place for the next byte: a full buffer is written and begun anew.
-fn room(out: &[u8], used: usize) -> usize
-    ensures { result < 65536 }
-{
-    if used < 65536 {
-        return used;
+    /// Gathering never fails.
+    pub fn put<D: Display + Drop>(&mut self, text: D) {
+        let _ = self.write(text);
     }
-    io::write_all(STDOUT_FILENO, out);
-    0
-}
 
-pub fn put_number(out: &mut Buffer, used: usize, n: u64) -> usize
-    requires { used ≤ 65536 }
-    ensures { result ≤ 65536 }
-{
-    let mut digits = [0u8; 20];
-    let k = io::decimal(n, &mut digits);
-    put(out, used, &digits[..k])
-}
-
-// A text and a number.
-pub fn put_named(out: &mut Buffer, used: usize, text: &[u8], n: u64) -> usize
-    requires { used ≤ 65536 }
-    ensures { result ≤ 65536 }
-{
-    let at = put(out, used, text);
-    put_number(out, at, n)
-}
-
-// A text, a number, a blank and a number.
-pub fn put_pair(out: &mut Buffer, used: usize, text: &[u8], a: u64, b: u64) -> usize
-    requires { used ≤ 65536 }
-    ensures { result ≤ 65536 }
-{
-    let at = put_named(out, used, text, a);
-    put_next(out, at, b)
-}
-
-pub fn put_refused(out: &mut Buffer, used: usize, number: u32, at: u32) -> usize
-    requires { used ≤ 65536 }
-    ensures { result ≤ 65536 }
-{
-    put_pair(out, used, b"refused ", number as u64, at as u64)
-}
-
-// Each word of a path with a blank before it.
-pub fn put_path(out: &mut Buffer, used: usize, path: &[u16]) -> usize
-    requires { used ≤ 65536 }
-    ensures { result ≤ 65536 }
-{
-    let mut at = used;
-    let mut i = 0;
-    while i < path.len() {
-        at = put_step(out, at, path[i]);
-        i += 1;
+    /// What can't be written is lost, and the program goes on.
+    pub fn flush(&mut self)
+        ensures { self.new.used ≡ 0 }
+    {
+        let used = self.used;
+        self.used = 0;
+        let _ = self.to.write_all(&self.gathered[..used]);
     }
-    at
 }
 
-fn put_step(out: &mut Buffer, used: usize, word: u16) -> usize
-    requires { used ≤ 65536 }
-    ensures { result ≤ 65536 }
-{
-    put_next(out, used, word as u64)
-}
+impl<W: Write> AnswerWriter<W> {
+    ghost use Rattle.lvs_cases.specs.Gathering.{waiting};
 
-// Each word with a blank before it.
-pub fn put_words(out: &mut Buffer, used: usize, words: &[u32]) -> usize
-    requires { used ≤ 65536 }
-    ensures { result ≤ 65536 }
-{
-    let mut at = used;
-    let mut i = 0;
-    while i < words.len() {
-        at = put_word(out, at, words[i]);
-        i += 1;
+    /// A text for which there is room.
+    fn gather(&mut self, text: &[u8])
+        requires { self.old.used + length text.now ≤ 65536 }
+        ensures bytes { waiting self.new ≡ waiting self.old ++ text.now }
+        ensures to { self.new.to ≡ self.old.to }
+    {
+        let used = self.used + text.len();
+        self.gathered[self.used..used].copy_from_slice(text);
+        self.used = used;
     }
-    at
 }
 
-fn put_word(out: &mut Buffer, used: usize, word: u32) -> usize
-    requires { used ≤ 65536 }
-    ensures { result ≤ 65536 }
-{
-    put_next(out, used, word as u64)
-}
+impl<W: Write> fmt::Write for AnswerWriter<W> {
+    ghost use Rattle.lvs_cases.specs.Gathering.{Gathers};
 
-// Each number with a blank before it.
-pub fn put_numbers(out: &mut Buffer, used: usize, numbers: &[u64]) -> usize
-    requires { used ≤ 65536 }
-    ensures { result ≤ 65536 }
-{
-    let mut at = used;
-    let mut i = 0;
-    while i < numbers.len() {
-        at = put_next(out, at, numbers[i]);
-        i += 1;
+    ghost write_str_gives = { Gathers };
+
+    fn write_str(&mut self, text: &str) -> fmt::Result {
+        let text = text.as_bytes();
+        if text.len() > self.gathered.len() - self.used {
+            self.flush();
+        }
+        if text.len() > self.gathered.len() {
+            let _ = self.to.write_all(text);
+        } else {
+            self.gather(text);
+        }
+        Ok(())
     }
-    at
 }
 
-fn put_next(out: &mut Buffer, used: usize, n: u64) -> usize
-    requires { used ≤ 65536 }
-    ensures { result ≤ 65536 }
-{
-    put_named(out, used, b" ", n)
-}
+/// Each number with a blank before it.
+#[derive(Clone, Copy)]
+pub struct Listed<'a, T>(pub &'a [T]);
 
-// One blank, then two hexadecimal digits for each byte. Nothing for no bytes.
-pub fn put_hex(out: &mut Buffer, used: usize, bytes: &[u8]) -> usize
-    requires { used ≤ 65536 }
-    ensures { result ≤ 65536 }
-{
-    if bytes.len() == 0 {
-        return used;
+impl<T: Display> Display for Listed<'_, T> {
+    fn fmt<W: fmt::Write>(&self, f: &mut fmt::Formatter<W>) -> fmt::Result {
+        for x in self.0 {
+            write!(f, " {x}")?;
+        }
+        Ok(())
     }
-    let at = put(out, used, b" ");
-    put_bytes(out, at, bytes)
 }
 
-fn put_bytes(out: &mut Buffer, used: usize, bytes: &[u8]) -> usize
-    requires { used ≤ 65536 }
-    ensures { result ≤ 65536 }
-{
-    let mut at = used;
-    let mut i = 0;
-    while i < bytes.len() {
-        at = put_byte(out, at, bytes[i]);
-        i += 1;
+/// One blank, then two hexadecimal digits for each byte. Nothing for no bytes.
+#[derive(Clone, Copy)]
+pub struct Hex<'a>(pub &'a [u8]);
+
+impl Display for Hex<'_> {
+    fn fmt<W: fmt::Write>(&self, f: &mut fmt::Formatter<W>) -> fmt::Result {
+        if self.0.is_empty() {
+            return Ok(());
+        }
+        f.write_str(" ")?;
+        // eight bytes are one number, since each number costs a call
+        for part in self.0.chunks(8) {
+            let number = part.iter().fold(0u64, |n, b| n << 8 | u64::from(*b));
+            let width = 2 * part.len();
+            write!(f, "{number:0width$x}")?;
+        }
+        Ok(())
     }
-    at
-}
-
-fn put_byte(out: &mut Buffer, used: usize, byte: u8) -> usize
-    requires { used ≤ 65536 }
-    ensures { result ≤ 65536 }
-{
-    let digits = [digit(byte / 16), digit(byte % 16)];
-    put(out, used, &digits)
-}
-
-fn digit(n: u8) -> u8
-    requires { n < 16 }
-{
-    if n < 10 { b'0' + n } else { b'a' - 10 + n }
-}
-
-pub fn flush(out: &[u8], used: usize)
-    requires { used ≤ length out.now }
-{
-    io::write_all(STDOUT_FILENO, &out[..used]);
 }

@@ -1,217 +1,175 @@
-// Answers signing requests by the model in `model.lvs` (docs/format.md, 10).
-//
-// A request on standard input is the mark 4D 4B, then a 2-byte length (high byte first) and the packet name, then such a length and the
-// key name. Each gets one line. Nothing is read ahead, so that an answer is written as soon as its request is complete.
+//! Answers signing requests by the model in `model.lvs` (docs/format.md, 10).
+//!
+//! A request on standard input is the mark 4D 4B, then a 2-byte length (high byte first) and the packet name, then such a length and the
+//! key name. Each gets one line. Nothing is read ahead, so that an answer is written as soon as its request is complete.
 #![tactic(auto)]
 
-ghost use Rattle.std.specs.Prelude.{◌≤◌};
-ghost use Rattle.io.specs.Counts.{IsPrefixLen};
+ghost use Rattle.std.specs.Prelude.{◌≤◌, length, IfOk, IfSome, IsTrue};
+ghost use Rattle.std.specs.Int.{to_be_bytes, w16};
+ghost use Rattle.std.specs.Io.KnownBytes.{Consumes};
+ghost use Rattle.lvs_check.specs.Request.{name_of, request_of};
 
 use lvs::SignAnswer;
 use lvs_verdict::Verdict;
+use std::fmt::Display;
 use std::fs::File;
+use std::io;
 use std::io::Read;
 use std::rt::Files;
 
-// Standard input and output, as file descriptors.
-const STDIN_FILENO: i32 = 0;
-
-const STDOUT_FILENO: i32 = 1;
-
-// One byte more than a model may have: of a longer file the library refuses the length.
+/// One byte more than a model may have: of a longer file the library refuses the length.
 const MODEL_BYTES: usize = 32769;
 
 const NAME_BYTES: usize = 2048;
 
 const LAST_REQUEST: u64 = 65535;
 
-const MARK_FIRST: u8 = 0x4D;
+const MARK: [u8; 2] = [0x4D, 0x4B];
 
-const MARK_SECOND: u8 = 0x4B;
+/// A name, where there is room for the longest that is read.
+type NameSpace = [u8; NAME_BYTES];
 
-// What was read where a request may begin.
-#[derive(Clone, Copy)]
-enum Mark {
-    Right,
-    Wrong,
-    Ended,
+struct Request<'a> {
+    packet: &'a [u8],
+    key: &'a [u8],
 }
 
-// The number of bytes of a name that were read, and whether these are all of it.
+/// Why a request has no answer: it is cut, another mark stands before it, or a name has no room.
 #[derive(Clone, Copy)]
-struct NameBytes {
-    is_whole: bool,
-    count: usize,
+struct Broken;
+
+/// A read that fails ends the input.
+impl From<io::Error> for Broken {
+    fn from(_e: io::Error) -> Broken {
+        Broken
+    }
 }
 
 fn main(rt: HostRuntime) {
-    let mut model = [0u8; MODEL_BYTES];
-    let n = read_model(&rt, &mut model);
-    match lvs_verdict::judge_model(&model[..n]) {
-        Verdict::Refused { number, at } => print_refused_model(number, at),
+    let mut space = [0; MODEL_BYTES];
+    let model = read_model(&rt, &mut space);
+    match lvs_verdict::judge_model(model) {
+        Verdict::Refused { number, at } => {
+            put_line(&rt, format_args!("model refused {number} at {at}"));
+        }
         Verdict::Accepted { nodes } => {
-            print_model(nodes);
-            answer_requests(&model[..n]);
+            put_line(&rt, format_args!("model {nodes} nodes"));
+            // `stdin` has no buffer: what is read is what was asked for
+            answer_requests(&rt, &mut rt.stdin(), model);
         }
     }
 }
 
-// A file that can't be opened counts as empty.
-fn read_model(rt: &impl Files, space: &mut [u8]) -> usize
-    ensures { IsPrefixLen result space.new }
+/// What can't be written is lost, and the program goes on.
+fn put_line<P: Print, D: Display + Drop>(rt: &P, line: D) {
+    let _ = rt.println(line);
+}
+
+/// A file that can't be opened counts as empty.
+fn read_model<'a, R: Files>(rt: &R, space: &'a mut [u8]) -> &'a [u8]
+    ensures { length result.now ≤ length space.old }
 {
     match File::open(rt, "model.lvs") {
         Ok(file) => read_all(file, space),
-        Err(_) => 0,
+        Err(_) => &[],
     }
 }
 
-// As many bytes as the file has and the space holds. A read that fails ends it, like the end of the file.
-fn read_all(mut file: impl Read + Drop, space: &mut [u8]) -> usize
-    ensures { IsPrefixLen result space.new }
+/// As many bytes as the file has and the space holds. A read that fails ends it, like the end of the file.
+/// This and `put_line` stand in three programs: no library may name `std` (tools/axioms.py).
+fn read_all<'a, R: Read + Drop>(mut file: R, space: &'a mut [u8]) -> &'a [u8]
+    ensures { length result.now ≤ length space.old }
 {
     let mut done = 0;
     while done < space.len() {
-        let n = file.read(&mut space[done..]).unwrap_or(0);
-        if n == 0 {
-            return done;
-        }
-        done += n;
-    }
-    done
-}
-
-fn answer_requests(model: &[u8]) {
-    let mut k = 0;
-    while k < LAST_REQUEST {
-        k += 1;
-        if !answer_request(model, k) {
-            return;
+        match file.read(&mut space[done..]) {
+            Ok(0) | Err(_) => break,
+            Ok(n) => done += n,
         }
     }
+    &space[..done]
 }
 
-// Answers the request numbered k, and says whether another one may follow.
-fn answer_request(model: &[u8], k: u64) -> bool {
-    let mut packet = [0u8; NAME_BYTES];
-    let mut key = [0u8; NAME_BYTES];
-    match read_mark() {
-        Mark::Ended => return false,
-        Mark::Wrong => return print_broken(k),
-        Mark::Right => {}
+/// A broken request is the last one.
+fn answer_requests<P: Print, R: Read>(rt: &P, input: &mut R, model: &[u8]) {
+    for k in 1..=LAST_REQUEST {
+        let mut packet = [0; NAME_BYTES];
+        let mut key = [0; NAME_BYTES];
+        match read_request(input, &mut packet, &mut key) {
+            Ok(Some(request)) => answer(rt, model, k, request),
+            Ok(None) => return,
+            Err(Broken) => return put_line(rt, format_args!("{k} broken")),
+        }
     }
-    let p = read_name(&mut packet);
-    if !p.is_whole {
-        return print_broken(k);
-    }
-    let q = read_name(&mut key);
-    if !q.is_whole {
-        return print_broken(k);
-    }
-    let n = p.count;
-    let m = q.count;
-    let mut words = [0u32; lvs_spec::BINDING_WORDS];
-    let mut path = [0u16; lvs_spec::PATH_WORDS];
-    print_answer(
-        k,
-        lvs::sign(model, &packet[..n], &key[..m], &mut words, &mut path),
-    );
-    true
 }
 
-fn read_mark() -> Mark {
-    let mut mark = [0u8; 2];
-    let n = io::read_full(STDIN_FILENO, &mut mark);
-    if n == 0 {
-        return Mark::Ended;
-    }
-    if n < 2 {
-        return Mark::Wrong;
-    }
-    if mark[0] != MARK_FIRST {
-        return Mark::Wrong;
-    }
-    if mark[1] != MARK_SECOND {
-        return Mark::Wrong;
-    }
-    Mark::Right
-}
-
-// Reads a length and a name of that many bytes. A length above what space holds is a broken request, like a cut one.
-fn read_name(space: &mut [u8]) -> NameBytes
-    ensures { IsPrefixLen result.count space.new }
+/// The next request; none where the input ends before it. Nothing behind it is read.
+fn read_request<'a, R: Read>(
+    input: &mut R,
+    packet: &'a mut NameSpace,
+    key: &'a mut NameSpace,
+) -> Result<Option<Request<'a>>, Broken>
+    ensures { IfOk result (λ next. IfSome next (λ request.
+        Consumes (R.remaining input.old) (R.remaining input.new) (request_of request.packet.now request.key.now))) }
 {
-    let mut length = [0u8; 2];
-    if io::read_full(STDIN_FILENO, &mut length) < 2 {
-        return NameBytes {
-            is_whole: false,
-            count: 0,
-        };
+    if !read_mark(input)? {
+        return Ok(None);
     }
-    let n = wide(length[0]) * 256 + wide(length[1]);
-    if n > space.len() {
-        return NameBytes {
-            is_whole: false,
-            count: 0,
-        };
-    }
-    let count = io::read_full(STDIN_FILENO, &mut space[..n]);
-    NameBytes {
-        is_whole: count == n,
-        count,
-    }
+    let packet = read_name(input, packet)?;
+    let key = read_name(input, key)?;
+    Ok(Some(Request { packet, key }))
 }
 
-fn wide(b: u8) -> usize
-    ensures { result ≤ 255 }
+/// Whether another request begins: false at the end of the input.
+fn read_mark<R: Read>(input: &mut R) -> Result<bool, Broken>
+    ensures { IfOk result (λ begins. IsTrue begins → Consumes (R.remaining input.old) (R.remaining input.new) MARK) }
 {
-    b as usize
-}
-
-fn print_refused_model(number: u32, at: u32) {
-    io::write_all(STDOUT_FILENO, b"model refused ");
-    io::print_decimal(STDOUT_FILENO, number as u64);
-    io::write_all(STDOUT_FILENO, b" at ");
-    io::print_decimal(STDOUT_FILENO, at as u64);
-    io::write_all(STDOUT_FILENO, b"\n");
-}
-
-fn print_model(nodes: u32) {
-    io::write_all(STDOUT_FILENO, b"model ");
-    io::print_decimal(STDOUT_FILENO, nodes as u64);
-    io::write_all(STDOUT_FILENO, b" nodes\n");
-}
-
-// A broken request is the last one: false.
-fn print_broken(k: u64) -> bool {
-    io::print_decimal(STDOUT_FILENO, k);
-    io::write_all(STDOUT_FILENO, b" broken\n");
-    false
-}
-
-fn print_answer(k: u64, answer: SignAnswer) {
-    io::print_decimal(STDOUT_FILENO, k);
-    match answer {
-        SignAnswer::Allowed { packet, key } => print_allowed(packet, key),
-        SignAnswer::NotAllowed => print_not_allowed(),
-        SignAnswer::Refused { number, at: _ } => print_refused(number),
+    let Ok(first) = read_array::<_, 1>(input) else {
+        return Ok(false);
+    };
+    let second = read_array::<_, 1>(input)?;
+    if [first[0], second[0]] != MARK {
+        return Err(Broken);
     }
+    Ok(true)
 }
 
-fn print_allowed(packet: u64, key: u64) {
-    io::write_all(STDOUT_FILENO, b" allowed ");
-    io::print_decimal(STDOUT_FILENO, packet);
-    io::write_all(STDOUT_FILENO, b" ");
-    io::print_decimal(STDOUT_FILENO, key);
-    io::write_all(STDOUT_FILENO, b"\n");
+/// Reads a length and a name of that many bytes.
+fn read_name<'a, R: Read>(input: &mut R, space: &'a mut NameSpace) -> Result<&'a [u8], Broken>
+    ensures room { IfOk result (λ name. length name.now ≤ NAME_BYTES) }
+    ensures bytes { IfOk result (λ name. Consumes (R.remaining input.old) (R.remaining input.new) (name_of name.now)) }
+{
+    let size = usize::from(read_size(input)?);
+    let name = space.get_mut(..size).ok_or(Broken)?;
+    input.read_exact(name)?;
+    Ok(name)
 }
 
-fn print_not_allowed() {
-    io::write_all(STDOUT_FILENO, b" not allowed\n");
+fn read_size<R: Read>(input: &mut R) -> Result<u16, Broken>
+    ensures { IfOk result (λ n. Consumes (R.remaining input.old) (R.remaining input.new) (to_be_bytes w16 n)) }
+{
+    Ok(u16::from_be_bytes(read_array(input)?))
 }
 
-fn print_refused(number: u32) {
-    io::write_all(STDOUT_FILENO, b" refused ");
-    io::print_decimal(STDOUT_FILENO, number as u64);
-    io::write_all(STDOUT_FILENO, b"\n");
+fn read_array<R: Read, const N: usize>(input: &mut R) -> Result<[u8; N], Broken>
+    ensures { IfOk result (λ bytes. Consumes (R.remaining input.old) (R.remaining input.new) bytes) }
+{
+    let mut bytes = [0; N];
+    input.read_exact(&mut bytes)?;
+    Ok(bytes)
+}
+
+fn answer<P: Print>(rt: &P, model: &[u8], k: u64, request: Request) {
+    let mut words = [0; lvs_spec::BINDING_WORDS];
+    let mut path = [0; lvs_spec::PATH_WORDS];
+    let Request { packet, key } = request;
+    match lvs::sign(model, packet, key, &mut words, &mut path) {
+        SignAnswer::Allowed { packet, key } => {
+            put_line(rt, format_args!("{k} allowed {packet} {key}"));
+        }
+        SignAnswer::NotAllowed => put_line(rt, format_args!("{k} not allowed")),
+        SignAnswer::Refused { number, at: _ } => {
+            put_line(rt, format_args!("{k} refused {number}"));
+        }
+    }
 }

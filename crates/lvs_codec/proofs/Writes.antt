@@ -16,13 +16,13 @@ use Rattle.lvs_spec.specs.Verdict.{Verdict as Judged, accepted, refused, reading
 use Rattle.lvs_spec.specs.Answers.{plain}
 use Rattle.lvs_spec.proofs.Lists.{clash}
 use Rattle.lvs_verdict.specs.Answers.{verdict_of}
-use Rattle.lvs_verdict.specs.declared.Verdict.{Verdict}
-use Rattle.lvs_verdict.specs.declared.Verdict.TheVariants as verdicts
+use Rattle.lvs_spec.specs.Refusals.{refusal_of}
+use Rattle.lvs_spec.specs.declared.refusal.Refusal.{Refusal}
 use Rattle.lvs_description.specs.Description.{model_bytes, description_of}
 use Rattle.lvs_description.specs.Answers.{WriteOutcome, write_refused, written, write_outcome, no_description, short_output}
 use Rattle.lvs_description.proofs.Calls.{no_description_lem, refused_bytes, short_output_lem, on_output, writing_is}
 use Rattle.lvs_write.specs.Steps.{capped, size_of, Written}
-use Rattle.lvs_write.specs.declared.Size.{Size}
+use Rattle.std.specs.Prelude.{None, Some, Result, Ok, Err}
 use Rattle.lvs_codec.specs.Answers.{Sized}
 
 -- ---- the size
@@ -33,18 +33,18 @@ pub record Measured (ns ts : List ℕ) (n : ℕ) : Type 0 where
   pub is : description_of ns ts ≡ some model
   pub size_is : n ≡ capped (length (model_bytes model))
 
-module _ (ns ts : List ℕ) {z : Size} (e : z ≡ size_of (description_of ns ts)) where
+module _ (ns ts : List ℕ) where
   -- the lists describe nothing
-  pub nothing_described : (before : List ℕ) → z ≡ Size.Nothing → write_refused (plain no_description) before ≡ write_outcome ns ts before
-  nothing_described before f = go (description_of ns ts) refl
+  pub nothing_described : (before : List ℕ) → None ≡ size_of (description_of ns ts) → write_refused (plain no_description) before ≡ write_outcome ns ts before
+  nothing_described before e = go (description_of ns ts) refl
     where
       go : (o : Option Model) → description_of ns ts ≡ o → write_refused (plain no_description) before ≡ write_outcome ns ts before
       go none d = writing_is (no_description_lem d)
       go (some m) d = clash (cc (ap size_of d))
 
   -- or something
-  pub measured : {n : ℕ} → z ≡ Size.Bytes n → Measured ns ts n
-  measured {n} f = go (description_of ns ts) refl
+  pub measured : {n : ℕ} → Some n ≡ size_of (description_of ns ts) → Measured ns ts n
+  measured {n} e = go (description_of ns ts) refl
     where
       go : (o : Option Model) → description_of ns ts ≡ o → Measured ns ts n
       go none d = clash (cc (ap size_of d))
@@ -83,25 +83,21 @@ module _ {ns ts place y : List ℕ} (S : Sized ns ts (length place)) (W : Writte
   bytes_are = filled (W.put S.model S.is (omega (arith, S.size_is, S.small)) (omega (arith, S.size_is))) (sym S.size_is)
 
   -- the verdict on them
-  module _ {v : Verdict} (e : verdict_of v ≡ verdict y) where
-    judged : {w : Verdict} → v ≡ w → verdict (model_bytes S.model) ≡ verdict_of w
+  module _ {v : Result ℕ Refusal} (e : verdict_of v ≡ verdict y) where
+    judged : {w : Result ℕ Refusal} → v ≡ w → verdict (model_bytes S.model) ≡ verdict_of w
     judged f = ap verdict (sym bytes_are) ∙ sym e ∙ ap verdict_of f
 
     -- refuses, whatever the output is;
-    module _ {r i : ℕ} (f : v ≡ verdicts.Refused r i) where
-      pub bytes_refused : (before : List ℕ) → write_refused (record { number = r; at = i }) before ≡ write_outcome ns ts before
+    module _ {x : Refusal} (f : v ≡ Err x) where
+      pub bytes_refused : (before : List ℕ) → write_refused (refusal_of x) before ≡ write_outcome ns ts before
       bytes_refused before = writing_is (refused_bytes S.is (judged f))
 
       -- what stood there was kept, and is put back
-      pub put_back : {space kept z : List ℕ} → Stored space kept 0 place → length space ≡ length place → Stored y z 0 kept
-          → write_refused (record { number = r; at = i }) z ≡ write_outcome ns ts place
-      put_back P same Q =
-          let is = filled P (sym same) in
-          let long : length y ≡ length place = ap length bytes_are ∙ sym S.size_is in
-          ap (write_refused (record { number = r; at = i })) (filled Q (ap length is ∙ sym long) ∙ is) ∙ bytes_refused place
+      pub put_back : {kept z : List ℕ} → kept ≡ place → z ≡ kept → write_refused (refusal_of x) z ≡ write_outcome ns ts place
+      put_back p q = ap (write_refused (refusal_of x)) (q ∙ p) ∙ bytes_refused place
 
     -- or accepts,
-    module _ {k : ℕ} (f : v ≡ verdicts.Accepted k) where
+    module _ {k : ℕ} (f : v ≡ Ok k) where
       -- and an output is too short,
       pub no_room : (before : List ℕ) → length before < length place → write_refused (plain short_output) before ≡ write_outcome ns ts before
       no_room before h = writing_is (short_output_lem S.is (judged f) (omega (arith, S.size_is)))

@@ -1,136 +1,110 @@
 // Models written from their descriptions, and taken apart into them (docs/format.md, 12): two public calls. Any lists and any bytes have an answer.
 #![tactic(auto)]
 
-ghost use Rattle.std.specs.Prelude.{◌≡◌, ◌≤◌, length};
+ghost use Rattle.std.specs.Prelude.{◌≡◌, ◌≤◌, ◌<◌, ◌^◌, length};
 ghost use Rattle.lvs_description.specs.Answers.{write_outcome, describe_outcome};
 ghost use Rattle.lvs_codec.specs.Answers.{write_answer_of, describe_answer_of, Sized, Answered, AnsweredShort};
 
-use lvs_describe::Described;
-use lvs_verdict::Verdict;
-use lvs_write::Size;
-
-// Lists that form no description, or that are too short for one.
-const NO_DESCRIPTION: u32 = 30;
-
-const SHORT_OUTPUT: u32 = 31;
+pub use lvs_describe::Lengths;
+use lvs_spec::MAX_MODEL_BYTES;
+use lvs_spec::refusal::Refusal;
+use lvs_write::Description;
 
 // The most bytes of a description that is written with little space.
 const SMALL: usize = 4096;
 
-// Written with this many bytes; or refused, as the verdict would refuse those bytes, or with 30 or 31 and 0.
-#[derive(Clone, Copy)]
-pub enum WriteAnswer {
-    Written(usize),
-    Refused { number: u32, at: u32 },
-}
-
-// Described with so many numbers and bytes of texts; or refused, as the verdict refuses the model, or with 30 and 0.
-#[derive(Clone, Copy)]
-pub enum DescribeAnswer {
-    Described { numbers: usize, texts: usize },
-    Refused { number: u32, at: u32 },
-}
-
-// Writes the bytes of a description over the front of a lent output; those behind stay. A refusal keeps all.
-pub fn write_model(numbers: &[u64], texts: &[u8], output: &mut [u8]) -> WriteAnswer
+// Writes the bytes of a description over the front of a lent output, and answers how many; those behind stay. A refusal keeps all: lists that form
+// no description, what the verdict refuses those bytes for, or an output that is too short for them.
+pub fn write_model(numbers: &[u64], texts: &[u8], output: &mut [u8]) -> Result<usize, Refusal>
     ensures { record { answer = write_answer_of result; output = output.new } ≡
         write_outcome numbers.now texts.now output.old }
 {
-    let Size::Bytes(size) = lvs_write::described_size(numbers, texts) else {
-        return WriteAnswer::Refused {
-            number: NO_DESCRIPTION,
-            at: 0,
-        };
+    let description = Description { numbers, texts };
+    let Some(size) = description.size() else {
+        return Err(Refusal::NoDescription);
     };
-    if lvs_spec::MAX_MODEL_BYTES < size {
-        return WriteAnswer::Refused { number: 1, at: 0 };
+    if MAX_MODEL_BYTES < size {
+        return Err(Refusal::TooLong);
     }
     if size <= SMALL {
-        return write_small(numbers, texts, size, output);
+        return write_within::<SMALL>(description, size, output);
     }
-    write_large(numbers, texts, size, output)
+    write_within::<MAX_MODEL_BYTES>(description, size, output)
 }
 
-// The same with space for a small description, and with space for any: zeroing the larger array costs more than a small description does.
-fn write_small(numbers: &[u64], texts: &[u8], size: usize, output: &mut [u8]) -> WriteAnswer
-    requires { Sized numbers.now texts.now size × (size ≤ 4096) }
-    ensures { Answered numbers.now texts.now output.old result output.new }
+// The same with space for N bytes: zeroing room for the largest model costs more than a small description does.
+fn write_within<const N: usize>(
+    description: Description,
+    size: usize,
+    output: &mut [u8],
+) -> Result<usize, Refusal>
+    requires sized { Sized description.numbers.now description.texts.now size }
+    requires room { (size ≤ N) × (N < 2 ^ 63) }
+    ensures { Answered description.entry.numbers.now description.entry.texts.now output.old result output.new }
 {
-    let mut space = [0u8; SMALL];
-    write_with(numbers, texts, output, &mut space[..size])
-}
-
-fn write_large(numbers: &[u64], texts: &[u8], size: usize, output: &mut [u8]) -> WriteAnswer
-    requires { Sized numbers.now texts.now size }
-    ensures { Answered numbers.now texts.now output.old result output.new }
-{
-    let mut space = [0u8; lvs_spec::MAX_MODEL_BYTES];
-    write_with(numbers, texts, output, &mut space[..size])
+    let mut space = [0u8; N];
+    write_with(description, output, &mut space[..size])
 }
 
 // The same with space for just the description's bytes.
-fn write_with(numbers: &[u64], texts: &[u8], output: &mut [u8], space: &mut [u8]) -> WriteAnswer
-    requires { Sized numbers.now texts.now (length space.old) }
-    ensures { Answered numbers.now texts.now output.old result output.new }
+fn write_with(
+    description: Description,
+    output: &mut [u8],
+    space: &mut [u8],
+) -> Result<usize, Refusal>
+    requires { Sized description.numbers.now description.texts.now (length space.old) }
+    ensures { Answered description.entry.numbers.now description.entry.texts.now output.old result output.new }
 {
     let size = space.len();
     if output.len() < size {
-        return refuse_short(numbers, texts, space);
+        return Err(refuse_short(description, space));
     }
-    write_over(numbers, texts, &mut output[..size], space)
+    write_over(description, &mut output[..size], space)
 }
 
-// The answer where the output is too short: the bytes are judged in the space, since their refusal comes before 31.
-fn refuse_short(numbers: &[u64], texts: &[u8], space: &mut [u8]) -> WriteAnswer
-    requires { Sized numbers.now texts.now (length space.old) }
-    ensures { AnsweredShort numbers.now texts.now (length space.old) result }
+// The refusal where the output is too short: the bytes are judged in the space, since what they are refused for comes first.
+fn refuse_short(description: Description, space: &mut [u8]) -> Refusal
+    requires { Sized description.numbers.now description.texts.now (length space.old) }
+    ensures { AnsweredShort description.entry.numbers.now description.entry.texts.now (length space.old) result }
 {
-    lvs_write::write_description(numbers, texts, space);
+    description.write(space);
     match lvs_verdict::judge_model(space) {
-        Verdict::Refused { number, at } => WriteAnswer::Refused { number, at },
-        Verdict::Accepted { .. } => WriteAnswer::Refused {
-            number: SHORT_OUTPUT,
-            at: 0,
-        },
+        Err(refusal) => refusal,
+        Ok(_) => Refusal::ShortOutput,
     }
 }
 
 // Writes over a place of just as many bytes and judges them there, so that they are written only once. What stood there is kept in the space, and
 // put back after a refusal.
-fn write_over(numbers: &[u64], texts: &[u8], place: &mut [u8], space: &mut [u8]) -> WriteAnswer
-    requires { Sized numbers.now texts.now (length place.old) × (length space.old ≡ length place.old) }
-    ensures { Answered numbers.now texts.now place.old result place.new }
+fn write_over(
+    description: Description,
+    place: &mut [u8],
+    space: &mut [u8],
+) -> Result<usize, Refusal>
+    requires { Sized description.numbers.now description.texts.now (length place.old) × (length space.old ≡ length place.old) }
+    ensures { Answered description.entry.numbers.now description.entry.texts.now place.old result place.new }
 {
-    tlv_writer::put_bytes(space, 0, place);
-    lvs_write::write_description(numbers, texts, place);
+    space.copy_from_slice(place);
+    description.write(place);
     match lvs_verdict::judge_model(place) {
-        Verdict::Refused { number, at } => {
-            tlv_writer::put_bytes(place, 0, space);
-            WriteAnswer::Refused { number, at }
+        Err(refusal) => {
+            place.copy_from_slice(space);
+            Err(refusal)
         }
-        Verdict::Accepted { .. } => WriteAnswer::Written(place.len()),
+        Ok(_) => Ok(place.len()),
     }
 }
 
-// Takes an accepted model apart, over the front of two lent lists; what is behind stays. A refusal keeps all.
-pub fn describe_model(model: &[u8], numbers: &mut [u64], texts: &mut [u8]) -> DescribeAnswer
+// Takes an accepted model apart, over the front of two lent lists, and answers how much of each it takes; what is behind stays. A refusal keeps
+// all: what the verdict refuses the model for, or that a list is too short.
+pub fn describe_model(
+    model: &[u8],
+    numbers: &mut [u64],
+    texts: &mut [u8],
+) -> Result<Lengths, Refusal>
     ensures { record { answer = describe_answer_of result; numbers = numbers.new; texts = texts.new } ≡
         describe_outcome model.now numbers.old texts.old }
 {
-    if let Verdict::Refused { number, at } = lvs_verdict::judge_model(model) {
-        return DescribeAnswer::Refused { number, at };
-    }
-    match lvs_describe::describe(model, numbers, texts) {
-        Described::TooShort => DescribeAnswer::Refused {
-            number: NO_DESCRIPTION,
-            at: 0,
-        },
-        Described::Of {
-            numbers: n,
-            texts: t,
-        } => DescribeAnswer::Described {
-            numbers: n,
-            texts: t,
-        },
-    }
+    lvs_verdict::judge_model(model)?;
+    lvs_describe::describe(model, numbers, texts).ok_or(Refusal::NoDescription)
 }

@@ -14,13 +14,13 @@ use Rattle.tlv.specs.Fields.{each_cut, inside_of, insides, number_of, integers, 
 use Rattle.lvs_spec.specs.Types as type
 use Rattle.lvs_spec.specs.Leaves.{marked}
 use Rattle.lvs_spec.specs.Model.{argument_of, term_from, option_of, constraint_of, value_edge_of, pattern_edge_of, node_of, symbol_of}
-use Rattle.lvs_spec.proofs.Lists.{eqb_sym}
+use Rattle.tlv.proofs.Iterated.{eqb_sym}
 use Rattle.lvs_description.specs.Format.{Lists, Format, integer, text, many, within}
 use Rattle.lvs_description.specs.Description.{argument, term, option, constraint, value_edge, pattern_edge, node, symbol}
 use Rattle.lvs_describe.specs.Parts.{shown, row}
 use Rattle.lvs_describe.specs.Sorts.{is_term, is_of, term_of, item_of, item_from, items_of, row_of}
-use Rattle.lvs_describe.specs.declared.Sort.{Sort}
-use Rattle.lvs_describe.specs.declared.Sort.TheVariants as sort
+use Rattle.lvs_describe.specs.declared.rows.Sort.{Sort}
+use Rattle.lvs_describe.specs.declared.rows.Sort.TheVariants as sort
 use Rattle.lvs_describe.proofs.Appended.{Appended, row_shown, integer_appended, text_appended, within_appended, argument_appended, term_appended}
 use Rattle.lvs_describe.proofs.Appended.{option_appended, constraint_appended, value_edge_appended, pattern_edge_appended, node_appended, symbol_appended}
 

@@ -1,4 +1,3 @@
-pub mod Rooms
 pub mod Puts
 pub mod Appended
 pub mod Items

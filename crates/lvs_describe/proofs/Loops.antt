@@ -1,76 +1,93 @@
--- What the readers find, and one turn of each loop over a container's elements, by the law of `tlv`'s Gathered. Assumes nothing.
-use mathlib.Core.Path.{◌≡◌, refl, sym, ap, ◌∙◌}
-use mathlib.Core.Bool.{Bool, true, false, cond}
+-- Loops over a container's elements: those that an iteration has left, and what they come to. Assumes nothing.
+use mathlib.Core.Path.{◌≡◌, sym, ap}
+use mathlib.Core.Bool.{Bool, true, false}
 use mathlib.Core.List.{List, [], ◌∷◌}
 use Prim.Native.Nat.{ℕ, ◌+◌, ◌≤◌, ◌<◌}
 use native.Mathlib.Omega.{arith}
 use borrow.Author.Tests.{ne_eqb}
-use lib.ListN.{length, drop, length-append}
-use Rattle.tlv.specs.Element.{Element, end, malformed, element}
-use Rattle.tlv.specs.Lists.{when, first_or}
-use Rattle.tlv.specs.Fields.{number_of}
-use Rattle.tlv.specs.Number.{integer}
-use Rattle.tlv.specs.declared.Place.{Place}
-use Rattle.tlv.proofs.Cuts.{Step}
-use Rattle.tlv.proofs.Gathered.{Stop, over, each_one, each_none, each_stop, each_most}
-use Rattle.tlv.proofs.Gathered.{Gathered, started, passed, took, ended, listed, rest_is, counted, one_left}
+use lib.ListN.{length}
+use mir.Val.{bool_byte}
+use Rattle.tlv.specs.Element.{Element, Each, done, broken, next, cuts}
+use Rattle.tlv.specs.Lists.{when, each, first_or}
+use Rattle.tlv.specs.Fields.{each_cut, elements, number_of}
+use Rattle.tlv.proofs.Cuts.{by_elements, cuts_end, cuts_malformed, cuts_next, element_whole, rest_shorter}
+use Rattle.tlv.proofs.Fields.{each_listed}
+use Rattle.tlv.proofs.Gathered.{each_most}
+use Rattle.lvs_description.specs.Format.{Lists}
 use Rattle.lvs_spec.specs.Types as type
-use Rattle.lvs_spec.specs.Model.{Argument, component_of, component_from, argument_from, argument_of}
-use Rattle.lvs_describe.specs.Found.{part, ComponentAt, held_by, ArgumentAt}
-use Rattle.lvs_describe.specs.Sorts.{is_of, one_of, item_of, item_from, items_of, CountsOf}
-use Rattle.lvs_describe.specs.declared.Counts.{Counts}
-use Rattle.lvs_describe.specs.declared.Sort.{Sort}
-use Rattle.lvs_describe.specs.declared.Sort.TheVariants as sort
+use Rattle.lvs_spec.specs.Model.{Argument, component_of, argument_from, argument_of}
+use Rattle.lvs_describe.specs.Sorts.{is_of, item_of, item_from, items_of, CountsOf}
+use Rattle.lvs_describe.specs.declared.rows.Counts.{Counts}
+use Rattle.lvs_describe.specs.declared.rows.Sort.{Sort}
+use Rattle.lvs_describe.specs.declared.rows.Sort.TheVariants as sort
 
--- ---- the component in a Value
+-- ---- an inside is shorter than what it stands in
 
-module _ {b : List ℕ} where
-  pub a_component : {t start stop : ℕ} {n : Place} → Step b 0 t start stop n → ComponentAt b (record { typ = t; start = start; end = stop })
-  unfolding component_of component_from
-  a_component st = record { order = st.order; within = st.within; is = rw st.first_is }
+pub insides_short : (b : List ℕ) (n : ℕ) → length b ≤ n → Each (λ e. length e.inside < n) (elements b)
+unfolding elements each_cut
+insides_short =
+    by_elements (λ b. (n : ℕ) → length b ≤ n → Each (λ e. length e.inside < n) (elements b))
+    (λ b p n h. at_end b n (cuts_end b p))
+    (λ b p n h. at_break b n (cuts_malformed b p))
+    (λ b x e r p ih n h.
+    let w = element_whole b x e r p in
+    let shorter = rest_shorter b x e r p in
+    one b n e r (cuts_next b x e r p) (omega (arith, w.some, w.within, w.inside_length)) (ih n (omega arith)))
+  where
+    at_end : (b : List ℕ) (n : ℕ) → cuts b ≡ done → Each (λ e. length e.inside < n) (elements b)
+    at_end b n p = rw p tt
 
-  pub nothing_there : element b ≡ end → ComponentAt b (record { typ = 0; start = 0; end = 0 })
-  unfolding component_of component_from
-  nothing_there e = record { order = omega arith; within = omega arith; is = rw e }
+    at_break : (b : List ℕ) (n : ℕ) → cuts b ≡ broken → Each (λ e. length e.inside < n) (elements b)
+    at_break b n p = rw p tt
 
-  pub no_component : element b ≡ malformed → ComponentAt b (record { typ = 0; start = 0; end = 0 })
-  unfolding component_of component_from
-  no_component e = record { order = omega arith; within = omega arith; is = rw e }
+    one : (b : List ℕ) (n : ℕ) (e : Element) (r : List ℕ) → cuts b ≡ next e (cuts r) → length e.inside < n → Each (λ e. length e.inside < n) (elements r)
+        → Each (λ e. length e.inside < n) (elements b)
+    one b n e r p h rest = rw p (h, rest)
 
 -- ---- the first Value or Tag of an argument
 
-module _ {s : List ℕ} {at : ℕ} (inv : Gathered listed (over argument_from) s at []) where
-  argument_is : {xs : List Argument} → over argument_from (drop at s) ≡ xs → argument_of s ≡ first_or (Argument.tag 0) xs
-  unfolding argument_of
-  argument_is e = ap (first_or (Argument.tag 0)) (rest_is inv ∙ e)
+-- of elements that an iteration has left
+abbrev pub first_argument : List Element → Argument
+first_argument es = first_or (Argument.tag 0) (each argument_from es)
 
-  module _ {t start stop : ℕ} {n : Place} (st : Step s at t start stop n) where
-    held : (v : Bool) → argument_from (record { type = t; inside = part s start stop }) ≡ held_by v (part s start stop) ∷ []
-        → ArgumentAt s (record { value = v; start = start; end = stop })
-    held v e = record { order = st.order; within = st.within; is = argument_is (each_one argument_from st e) }
+pub argument_listed : (b : List ℕ) → argument_of b ≡ first_argument (elements b)
+unfolding argument_of
+argument_listed b = ap (first_or (Argument.tag 0)) (each_listed argument_from b)
 
-    pub value_held : t ≡ type.Value → ArgumentAt s (record { value = true; start = start; end = stop })
-    unfolding argument_from held_by
-    value_held e = held true (rw e)
+module _ (e : Element) (es : List Element) where
+  pub value_first : e.type ≡ type.Value → first_argument (e ∷ es) ≡ Argument.value (component_of e.inside)
+  unfolding argument_from
+  value_first q = rw q
 
-    pub tag_held : t ≡ type.Tag → ArgumentAt s (record { value = false; start = start; end = stop })
-    unfolding argument_from held_by
-    tag_held e = held false (rw e)
+  pub tag_first : e.type ≡ type.Tag → first_argument (e ∷ es) ≡ Argument.tag (number_of e.inside)
+  unfolding argument_from
+  tag_first q = rw q
 
-    pub other_held : (t ≡ type.Value → ⊥) → (t ≡ type.Tag → ⊥) → Gathered listed (over argument_from) s n.at []
-    unfolding argument_from
-    other_held no_value no-tag =
-        passed inv (each_none argument_from st (rw (ne_eqb type.Value t (λ e. no_value (sym e)), ne_eqb type.Tag t (λ e. no-tag (sym e)))))
-
-  pub none_held : Stop s at → ArgumentAt s (record { value = false; start = 0; end = 0 })
-  unfolding held_by number_of integer
-  none_held st = record { order = omega arith; within = omega arith; is = argument_is (each_stop argument_from st) }
+  pub other_first : (e.type ≡ type.Value → ⊥) → (e.type ≡ type.Tag → ⊥) → first_argument (e ∷ es) ≡ first_argument es
+  unfolding argument_from
+  other_first p q = rw (ne_eqb type.Value e.type (λ x. p (sym x)), ne_eqb type.Tag e.type (λ x. q (sym x)))
 
 -- ---- the elements of one sort
 
-items_most : (k : Sort) (s : List ℕ) → length (items_of k s) ≤ length s
+abbrev pub items_in : Sort → List Element → List Lists
+items_in k es = each (item_from k) es
+
+pub items_listed : (k : Sort) (b : List ℕ) → items_of k b ≡ items_in k (elements b)
+unfolding items_of
+items_listed k b = each_listed (item_from k) b
+
+module _ (k : Sort) (e : Element) (es : List Element) where
+  pub item_here : is_of k e.type ≡ true → items_in k (e ∷ es) ≡ item_of k e.type e.inside ∷ items_in k es
+  unfolding item_from
+  item_here q = rw q
+
+  pub item_passed : is_of k e.type ≡ false → items_in k (e ∷ es) ≡ items_in k es
+  unfolding item_from
+  item_passed q = rw q
+
+items_most : (k : Sort) (b : List ℕ) → length (items_of k b) ≤ length b
 unfolding items_of item_from
-items_most k s = each_most (item_from k) few s
+items_most k b = each_most (item_from k) few b
   where
     few : (e : Element) → length (item_from k e) ≤ 1
     few e = go (is_of k e.type)
@@ -79,75 +96,72 @@ items_most k s = each_most (item_from k) few s
         go true = omega arith
         go false = omega arith
 
-most_counted : (k : Sort) {s : List ℕ} {at m : ℕ} → Gathered counted (items_of k) s at m → m ≤ length s
-most_counted k {s} inv = omega (arith, inv.is, simp length-append at (ap length inv.whole), items_most k s)
+-- ---- how many there are
 
-module _ (k : Sort) {s : List ℕ} {at : ℕ} where
-  module _ {t start stop : ℕ} {n : Place} (st : Step s at t start stop n) where
-    pub item_found : is_of k t ≡ true → items_of k (drop at s) ≡ item_of k t (part s start stop) ∷ items_of k (drop n.at s)
-    unfolding items_of item_from
-    item_found e = each_one (item_from k) st (rw e)
+-- with those that are left, n makes up all
+pub record Tally (k : Sort) (b : List ℕ) (left : List Element) (n : ℕ) : Type 0 where
+  pub is : n + length (items_in k left) ≡ length (items_of k b)
 
-    pub item_other : is_of k t ≡ false → items_of k (drop at s) ≡ items_of k (drop n.at s)
-    unfolding items_of item_from
-    item_other e = each_none (item_from k) st (rw e)
+pub tally_first : (k : Sort) (b : List ℕ) {left : List Element} → left ≡ elements b → Tally k b left 0
+tally_first k b e = record { is = omega (arith, ap length (items_listed k b), ap (λ es. length (items_in k es)) e) }
 
-  pub items_stop : Stop s at → items_of k (drop at s) ≡ []
-  unfolding items_of
-  items_stop st = each_stop (item_from k) st
+module _ {k : Sort} {b : List ℕ} {left : List Element} {n : ℕ} (T : Tally k b left n) where
+  pub tally_last : left ≡ [] → n ≡ length (items_of k b)
+  tally_last e = omega (arith, T.is, ap (λ es. length (items_in k es)) e)
 
-  -- a count stays below the number of bytes
-  pub item_room : {m t start stop : ℕ} {n : Place} → Gathered counted (items_of k) s at m → Step s at t start stop n → is_of k t ≡ true → m < length s
-  item_room inv st e = omega (arith, one_left inv (item_found st e), items_most k s)
+  module _ {e : Element} {es : List Element} (q : left ≡ e ∷ es) where
+    before : n + length (items_in k (e ∷ es)) ≡ length (items_of k b)
+    before = omega (arith, T.is, ap (λ xs. length (items_in k xs)) q)
 
-  -- an element of any type counts 1 or 0
-  module _ {m t start stop r : ℕ} {n : Place} (inv : Gathered counted (items_of k) s at m) (st : Step s at t start stop n) (e : r ≡ one_of k t) where
-    pub item_counted : Gathered counted (items_of k) s n.at (m + r)
-    unfolding one_of
-    item_counted = go (is_of k t) refl e
-      where
-        go : (p : Bool) → is_of k t ≡ p → r ≡ cond p 1 0 → Gathered counted (items_of k) s n.at (m + r)
-        go true f g = took inv (item_found st f) (rw g)
-        go false f g =
-            let z : m + r ≡ m = omega arith in
-            rw z (passed inv (item_other st f))
+    pub tally_here : is_of k e.type ≡ true → Tally k b es (n + 1)
+    tally_here h = record { is = omega (arith, before, ap length (item_here k e es h)) }
 
-    pub item_fits : m + r ≤ length s
-    item_fits = most_counted k item_counted
+    pub tally_past : is_of k e.type ≡ false → Tally k b es n
+    tally_past h = record { is = omega (arith, before, ap length (item_passed k e es h)) }
 
--- ---- how many of each sort a Node holds
+    pub tally_room : is_of k e.type ≡ true → n < length b
+    tally_room h = omega (arith, before, ap length (item_here k e es h), items_most k b)
 
--- those before a place
-pub record Tallied (s : List ℕ) (at : ℕ) (c : Counts) : Type 0 where
-  pub parents_in : Gathered counted (items_of sort.Parent) s at c.parents
-  pub names_in : Gathered counted (items_of sort.RuleName) s at c.names
-  pub values_in : Gathered counted (items_of sort.ValueEdge) s at c.values
-  pub patterns_in : Gathered counted (items_of sort.PatternEdge) s at c.patterns
-  pub signers_in : Gathered counted (items_of sort.Signer) s at c.signers
+-- an element of any type counts 1 or 0
+module _ {k : Sort} {b : List ℕ} {left : List Element} {n : ℕ} {e : Element} {es : List Element} {h : Bool} {r : ℕ} (T : Tally k b left n)
+    (q : left ≡ e ∷ es) (test : h ≡ is_of k e.type) (is : r ≡ bool_byte h) where
+  pub tally_by : Tally k b es (n + r)
+  tally_by = go h test is
+    where
+      go : (p : Bool) → p ≡ is_of k e.type → r ≡ bool_byte p → Tally k b es (n + r)
+      go true t f = rw f (tally_here T q (sym t))
+      go false t f =
+          let z : n + r ≡ n = omega (arith, f) in
+          rw z (tally_past T q (sym t))
 
-pub tally_first : {s : List ℕ} → Tallied s 0 (record { parents = 0; names = 0; values = 0; patterns = 0; signers = 0 })
-tally_first = record { parents_in = started; names_in = started; values_in = started; patterns_in = started; signers_in = started }
+  pub tally_within : n + r ≤ length b
+  tally_within = omega (arith, tally_by.is, items_most k b)
 
-module _ {s : List ℕ} {at : ℕ} {c : Counts} (inv : Tallied s at c) where
-  pub tally_next : {t start stop p n v q g : ℕ} {next : Place} → Step s at t start stop next → p ≡ one_of sort.Parent t → n ≡ one_of sort.RuleName t
-      → v ≡ one_of sort.ValueEdge t → q ≡ one_of sort.PatternEdge t → g ≡ one_of sort.Signer t
-      → Tallied s next.at
-      (record { parents = c.parents + p; names = c.names + n; values = c.values + v; patterns = c.patterns + q; signers = c.signers + g })
-  tally_next st p n v q g =
-      record {
-        parents_in = item_counted _ inv.parents_in st p;
-        names_in = item_counted _ inv.names_in st n;
-        values_in = item_counted _ inv.values_in st v;
-        patterns_in = item_counted _ inv.patterns_in st q;
-        signers_in = item_counted _ inv.signers_in st g;
-      }
+-- how many of each sort a Node holds
+pub record Tallied (b : List ℕ) (left : List Element) (c : Counts) : Type 0 where
+  pub parents_in : Tally sort.Parent b left c.parents
+  pub names_in : Tally sort.RuleName b left c.names
+  pub values_in : Tally sort.ValueEdge b left c.values
+  pub patterns_in : Tally sort.PatternEdge b left c.patterns
+  pub signers_in : Tally sort.Signer b left c.signers
 
-  pub tally_end : Stop s at → CountsOf s c
-  tally_end st =
-      record {
-        parents_are = ended inv.parents_in (items_stop _ st);
-        names_are = ended inv.names_in (items_stop _ st);
-        values_are = ended inv.values_in (items_stop _ st);
-        patterns_are = ended inv.patterns_in (items_stop _ st);
-        signers_are = ended inv.signers_in (items_stop _ st);
-      }
+pub tallied_first : (b : List ℕ) {left : List Element} → left ≡ elements b
+    → Tallied b left (record { parents = 0; names = 0; values = 0; patterns = 0; signers = 0 })
+tallied_first b e =
+    record {
+      parents_in = tally_first _ b e;
+      names_in = tally_first _ b e;
+      values_in = tally_first _ b e;
+      patterns_in = tally_first _ b e;
+      signers_in = tally_first _ b e;
+    }
+
+pub tallied_last : {b : List ℕ} {left : List Element} {c : Counts} → Tallied b left c → left ≡ [] → CountsOf b c
+tallied_last T e =
+    record {
+      parents_are = tally_last T.parents_in e;
+      names_are = tally_last T.names_in e;
+      values_are = tally_last T.values_in e;
+      patterns_are = tally_last T.patterns_in e;
+      signers_are = tally_last T.signers_in e;
+    }

@@ -1,26 +1,25 @@
 -- Parts that are put one behind the other. Assumes nothing.
 use mathlib.Core.Path.{◌≡◌, refl, sym, ap, subst, ◌∙◌}
-use mathlib.Core.Bool.{Bool, true, false}
-use mathlib.Core.List.{List, [], ◌++◌, append_assoc, append-nil}
-use Prim.Native.Nat.{ℕ, ◌+◌, ◌-◌, ◌≤◌, ◌<◌}
-use native.Mathlib.Numerals.{add-one}
+use mathlib.Core.List.{List, [], ◌∷◌, ◌++◌, append_assoc, append-nil}
+use Prim.Native.Nat.{ℕ, ◌+◌, ◌-◌, ◌≤◌}
 use native.Mathlib.Omega.{arith}
-use lib.ListN.{length, take, set, get_or, length-append, length-set}
-use lib.Seq.{take-suc-set, drop-set-lt, drop-drop, take_all, paste, paste-zero, paste-suc, take-paste, drop-paste}
+use borrow.Rule.Slice.PartMut.{put_mid, same_len_mid}
+use lib.ListN.{length, take, drop, length-append, length-drop}
+use lib.Seq.{drop-drop, take_at, drop_at, length-take-le}
+use Rattle.std.specs.Prelude.{Option, None, Some, MatchOption}
 use Rattle.lvs_description.specs.Format.{Lists, put_text}
 use Rattle.lvs_describe.specs.Parts.{nothing, joined, number, bytes}
-use Rattle.lvs_describe.specs.Lent.{Put, Lent, State, state, Describes, room_after, no_room}
-use Rattle.lvs_describe.specs.declared.Room.{Room}
-use Rattle.lvs_describe.proofs.Rooms.{Fits, kept, fit, spent, left_is, Fitted, fitted, nothing_left, room_then, never}
+use Rattle.lvs_describe.specs.Lent.{Fits, Put, Lent, Wrote, Describes}
+use Rattle.lvs_describe.specs.declared.output.Output.{Output}
 
 -- ---- one list
 
-pub put_none : (at : ℕ) (xs : List ℕ) → Put at [] xs xs
+put_none : (at : ℕ) (xs : List ℕ) → Put at [] xs xs
 put_none at xs =
     let e : at + 0 ≡ at = omega arith in
     record { front = rw (e, append-nil); back = refl }
 
-pub put_then : {at : ℕ} {xs ys a b c : List ℕ} → Put at xs a b → Put (at + length xs) ys b c → Put at (xs ++ ys) a c
+put_then : {at : ℕ} {xs ys a b c : List ℕ} → Put at xs a b → Put (at + length xs) ys b c → Put at (xs ++ ys) a c
 put_then {at} {xs} {ys} {a} {b} {c} p q =
     let n : at + length (xs ++ ys) ≡ at + length xs + length ys = rw length-append (omega arith) in
     record {
@@ -28,143 +27,115 @@ put_then {at} {xs} {ys} {a} {b} {c} p q =
       back = rw n (q.back ∙ sym (drop-drop (length ys) (at + length xs) b) ∙ rw p.back (drop-drop (length ys) (at + length xs) a));
     }
 
-lent_none : (ok : Bool) (left : ℕ) (xs : List ℕ) → Lent ok left [] xs xs
-lent_none ok left xs = record { kept = refl; put = λ e h. put_none _ xs }
+lent_none : (left : ℕ) (xs : List ℕ) → Lent left [] xs xs
+lent_none left xs = record { kept = refl; put = λ h. put_none _ xs }
 
--- `first` and `second` say whether the parts up to one and up to the other fit
-pub lent_then : {first second : Bool} {left left' : ℕ} {xs ys a b c : List ℕ} → (second ≡ true → (first ≡ true) × (left' + length xs ≡ left))
-    → Lent first left xs a b → Lent second left' ys b c → Lent second left (xs ++ ys) a c
-lent_then {first} {second} {left} {left'} {xs} {ys} {a} {b} {c} fits p q = record { kept = q.kept ∙ p.kept; put = both }
+lent_then : {left left' : ℕ} {xs ys a b c : List ℕ} → left' + length xs ≡ left → Lent left xs a b → Lent left' ys b c → Lent left (xs ++ ys) a c
+lent_then {left} {left'} {xs} {ys} {a} {b} {c} n p q = record { kept = q.kept ∙ p.kept; put = both }
   where
-    both : second ≡ true → left ≤ length a → Put (length a - left) (xs ++ ys) a c
-    both e h =
+    both : left ≤ length a → Put (length a - left) (xs ++ ys) a c
+    both h =
         let k = p.kept in
-        let (f, n) = fits e in
         let at : length b - left' ≡ length a - left + length xs = omega arith in
-        put_then (p.put f h) (subst (λ (i : ℕ). Put i ys b c) at (q.put e (omega arith)))
+        put_then (p.put h) (subst (λ (i : ℕ). Put i ys b c) at (q.put (omega arith)))
 
 -- ---- a part, and then another
 
-pub describes_nothing : {s : State} → Describes nothing s s
-describes_nothing {s} = record { room_is = nothing_left s.room; numbers_are = lent_none _ _ _; texts_are = lent_none _ _ _ }
+pub describes_nothing : {s : Output} → Describes nothing s s (Some tt)
+describes_nothing {s} =
+    record {
+      same_numbers = refl;
+      same_texts = refl;
+      by_room =
+          record { numbers_taken = omega arith; texts_taken = omega arith; numbers_are = lent_none _ s.numbers.now; texts_are = lent_none _ s.texts.now };
+    }
 
-module _ {a b : Lists} {s s' s'' : State} where
-  pub describes_then : Describes a s s' → Describes b s' s'' → Describes (joined a b) s s''
-  describes_then p q =
+module _ {a b : Lists} {s s' s'' : Output} where
+  wrote_then : Wrote a s s' → Wrote b s' s'' → Wrote (joined a b) s s''
+  wrote_then p q =
       record {
-        room_is = room_then a b s.room p.room_is q.room_is;
-        numbers_are = lent_then (λ e. let (f, g) = known e in (f, omega (arith, ap (λ (x : Room). x.numbers) g.taken_is, g.enough.numbers_fit)))
-            p.numbers_are
-            q.numbers_are;
-        texts_are = lent_then (λ e. let (f, g) = known e in (f, omega (arith, ap (λ (x : Room). x.texts) g.taken_is, g.enough.texts_fit)))
-            p.texts_are
-            q.texts_are;
+        numbers_taken = omega (arith, length-append a.numbers b.numbers, p.numbers_taken, q.numbers_taken);
+        texts_taken = omega (arith, length-append a.texts b.texts, p.texts_taken, q.texts_taken);
+        numbers_are = lent_then p.numbers_taken p.numbers_are q.numbers_are;
+        texts_are = lent_then p.texts_taken p.texts_are q.texts_are;
       }
+
+second_fits : {a : Lists} (b : Lists) {s s' : Output} → Wrote a s s' → Fits (joined a b) s → Fits b s'
+second_fits {a} b p f =
+    record {
+      numbers_fit = omega (arith, length-append a.numbers b.numbers, p.numbers_taken, f.numbers_fit);
+      texts_fit = omega (arith, length-append a.texts b.texts, p.texts_taken, f.texts_fit);
+    }
+
+module _ {a b : Lists} {s s' s'' : Output} where
+  pub describes_then : {r : Option (Unit {0})} → Describes a s s' (Some tt) → Describes b s' s'' r → Describes (joined a b) s s'' r
+  describes_then {r} p q =
+      record { same_numbers = q.same_numbers ∙ p.same_numbers; same_texts = q.same_texts ∙ p.same_texts; by_room = go r q.by_room }
     where
-      known : s''.room.ok ≡ true → (s'.room.ok ≡ true) × Fitted a s.room s'.room
-      known e = let f = (fitted q.room_is e).was_ok in (f, fitted p.room_is f)
+      go : (o : Option (Unit {0})) → MatchOption o (Fits b s' → ⊥) (λ _. Wrote b s' s'')
+          → MatchOption o (Fits (joined a b) s → ⊥) (λ _. Wrote (joined a b) s s'')
+      go None no' = λ f. no' (second_fits b p.by_room f)
+      go (Some x) w = wrote_then p.by_room w
 
--- ---- a part that is not put
+-- the first does not fit
+pub describes_stop : {a : Lists} (b : Lists) {s s' : Output} → Describes a s s' None → Describes (joined a b) s s' None
+describes_stop {a} b {s} p =
+    record {
+      same_numbers = p.same_numbers;
+      same_texts = p.same_texts;
+      by_room =
+          λ f.
+          p.by_room
+          (record {
+            numbers_fit = omega (arith, length-append a.numbers b.numbers, f.numbers_fit);
+            texts_fit = omega (arith, length-append a.texts b.texts, f.texts_fit);
+          });
+    }
 
-never_put : {ok : Bool} {left : ℕ} {xs before : List ℕ} → (ok ≡ true → ⊥) → Lent ok left xs before before
-never_put no' = record { kept = refl; put = λ e h. absurd (no' e) }
+pub describes_as : {l l' : Lists} {s s' : Output} {r : Option (Unit {0})} → l ≡ l' → Describes l s s' r → Describes l' s s' r
+describes_as {s = s} {s' = s'} {r = r} e d = subst (λ (x : Lists). Describes x s s' r) e d
 
-module _ {l : Lists} {r : Room} {ns ts : List ℕ} where
-  pub part_kept : r.ok ≡ false → Describes l (state r ns ts) (state r ns ts)
-  part_kept e = record { room_is = left_is (kept e); numbers_are = never_put no'; texts_are = never_put no' }
-    where
-      no' : r.ok ≡ true → ⊥
-      no' f = never (sym f ∙ e)
+-- ---- bytes over a part of a list
 
-  pub part_spent : r.ok ≡ true → (Fits l r → ⊥) → Describes l (state r ns ts) (state no_room ns ts)
-  part_spent e f = record { room_is = left_is (spent e f); numbers_are = never_put no'; texts_are = never_put no' }
-    where
-      no' : false ≡ true → ⊥
-      no' g = never (sym g)
+pub bytes_put : (l : List ℕ) (at n : ℕ) {y xs : List ℕ} → y ≡ xs → n ≡ length xs → at + length xs ≤ length l → Put at xs l (put_mid at n l y)
+bytes_put l at n {y} {xs} e k fits =
+    let size : length (take at l) ≡ at = length-take-le at l (omega arith) in
+    let long : length (take at l ++ xs) ≡ at + length xs = length-append (take at l) xs ∙ ap (λ (j : ℕ). j + length xs) size in
+    let is : put_mid at n l y ≡ (take at l ++ xs) ++ drop n (drop at l) =
+    ap (λ (z : List ℕ). take at l ++ (z ++ drop n (drop at l))) e ∙ sym (append_assoc (take at l) xs (drop n (drop at l))) in
+    record {
+      front = ap (take (at + length xs)) is ∙ take_at (take at l ++ xs) (drop n (drop at l)) (at + length xs) long;
+      back =
+          ap (drop (at + length xs)) is ∙ drop_at (take at l ++ xs) (drop n (drop at l)) (at + length xs) long ∙ drop-drop n at l ∙
+          ap (λ (j : ℕ). drop (at + j) l) k;
+    }
 
--- ---- one list's part: only counted, or put
-
-counted : {ok : Bool} {left : ℕ} {xs before : List ℕ} → length before < left → Lent ok left xs before before
-counted h = record { kept = refl; put = λ e g. absurd (omega arith) }
-
--- what a number and what bytes leave
-abbrev pub less_one : Room → Room
-less_one r = record { ok = true; numbers = r.numbers - 1; texts = r.texts }
-
-abbrev pub less_bytes : ℕ → Room → Room
-less_bytes k r = record { ok = true; numbers = r.numbers; texts = r.texts - k }
-
-module _ (n : ℕ) (r : Room) (e : r.ok ≡ true) (one : 1 ≤ r.numbers) (ns ts : List ℕ) where
-  number_room : less_one r ≡ room_after (number n) r
-  number_room =
-      let t : r.texts ≡ r.texts - 0 = omega arith in
-      (λ i. record { ok = true; numbers = r.numbers - 1; texts = t i }) ∙ left_is (fit e (record { numbers_fit = one; texts_fit = omega arith }))
-
-  pub number_counted : length ns < r.numbers → Describes (number n) (state r ns ts) (state (less_one r) ns ts)
-  number_counted h = record { room_is = number_room; numbers_are = counted h; texts_are = lent_none _ _ ts }
-
-  pub number_put : r.numbers ≤ length ns → Describes (number n) (state r ns ts) (state (less_one r) (set ns (length ns - r.numbers) n) ts)
-  number_put h =
-      let at = length ns - r.numbers in
-      record {
-        room_is = number_room;
-        numbers_are = record {
-          kept = length-set ns at n;
-          put = λ f g. record {
-            front = rw add-one (take-suc-set ns at n (omega arith));
-            back = drop-set-lt (at + 1) ns at n (omega arith);
+pub bytes_wrote : {s s' : Output} (xs : List ℕ) {n : ℕ} {y : List ℕ} → s'.numbers_left ≡ s.numbers_left → s'.numbers.now ≡ s.numbers.now
+    → s'.texts_left + length xs ≡ s.texts_left → s.texts_left ≤ length s.texts.now → y ≡ xs → n ≡ length xs
+    → s'.texts.now ≡ put_mid (length s.texts.now - s.texts_left) n s.texts.now y → Wrote (bytes xs) s s'
+bytes_wrote {s} {s'} xs {n} {y} numbers same left room e k is =
+    let l : List ℕ = s.texts.now in
+    let at : ℕ = length l - s.texts_left in
+    let stands : Put at xs l s'.texts.now = subst (Put at xs l) (sym is) (bytes_put l at n e k (omega arith)) in
+    record {
+      numbers_taken = omega (arith, numbers);
+      texts_taken = left;
+      numbers_are = subst (Lent s.numbers_left [] s.numbers.now) (sym same) (lent_none _ _);
+      texts_are =
+          record {
+            kept = ap length is ∙ same_len_mid at n l y (ap length e ∙ sym k ∙ sym (length-take-le n (drop at l) (simp length-drop (omega arith))));
+            put = λ h. stands;
           };
-        };
-        texts_are = lent_none _ _ ts;
-      }
-
-module _ (s : List ℕ) (r : Room) (e : r.ok ≡ true) (enough : length s ≤ r.texts) (ns ts : List ℕ) where
-  bytes_room : less_bytes (length s) r ≡ room_after (bytes s) r
-  bytes_room =
-      let n : r.numbers ≡ r.numbers - 0 = omega arith in
-      (λ i. record { ok = true; numbers = n i; texts = r.texts - length s }) ∙ left_is (fit e (record { numbers_fit = omega arith; texts_fit = enough }))
-
-  pub bytes_counted : length ts < r.texts → Describes (bytes s) (state r ns ts) (state (less_bytes (length s) r) ns ts)
-  bytes_counted h = record { room_is = bytes_room; numbers_are = lent_none _ _ ns; texts_are = counted h }
-
-  pub bytes_put : {ts' : List ℕ} → (length ts' ≡ length ts) × Put (length ts - r.texts) s ts ts'
-      → Describes (bytes s) (state r ns ts) (state (less_bytes (length s) r) ns ts')
-  bytes_put p =
-      record {
-        room_is = bytes_room;
-        numbers_are = lent_none _ _ ns;
-        texts_are = record { kept = p.0; put = λ f g. p.1 };
-      }
+    }
 
 -- ---- a text: its length and its bytes
 
-pub text_put : {b : List ℕ} {s s' s'' : State} → Describes (number (length b)) s s' → Describes (bytes b) s' s'' → Describes (put_text b nothing) s s''
-text_put p q = rw append-nil (describes_then p q)
+text_joined : (b : List ℕ) → joined (number (length b)) (bytes b) ≡ put_text b nothing
+text_joined b = λ i. record { numbers = length b ∷ []; texts = sym (append-nil b) i }
 
--- ---- a copy, byte by byte: the first i of s stand from `at` on
+pub text_put : {b : List ℕ} {s s' s'' : Output} {r : Option (Unit {0})} → Describes (number (length b)) s s' (Some tt) → Describes (bytes b) s' s'' r
+    → Describes (put_text b nothing) s s'' r
+text_put {b} p q = describes_as (text_joined b) (describes_then p q)
 
-pub record Copied (s : List ℕ) (at : ℕ) (before : List ℕ) (i : ℕ) (now : List ℕ) : Type 0 where
-  pub is : now ≡ paste before at s i
-  pub kept : length now ≡ length before
-
-pub none_copied : (s : List ℕ) (at : ℕ) (before : List ℕ) → Copied s at before 0 before
-none_copied s at before = record { is = paste-zero before at s; kept = refl }
-
-module _ {s : List ℕ} {at : ℕ} {before : List ℕ} {i : ℕ} {now : List ℕ} (enough : at + length s ≤ length before) (c : Copied s at before i now) where
-  pub one_copied : i < length s → Copied s at before (i + 1) (set now (at + i) (get_or s i 0))
-  one_copied h =
-      record {
-        is = rw c.is (paste-suc before at s i 0 (omega arith) h ∙ rw add-one);
-        kept = length-set now (at + i) (get_or s i 0) ∙ c.kept;
-      }
-
-  pub all_copied : length s ≤ i → i ≤ length s → (length now ≡ length before) × Put at s before now
-  all_copied h g =
-      let e : i ≡ length s = omega arith in
-      let all : take i s ≡ s = take_all i s h in (
-        c.kept,
-        record {
-          front = rw (c.is, ← e, take-paste before at s i (omega arith) g, all);
-          back = rw (c.is, ← e, drop-paste before at s i (omega arith) g);
-        },
-      )
+pub text_stop : (b : List ℕ) {s s' : Output} → Describes (number (length b)) s s' None → Describes (put_text b nothing) s s' None
+text_stop b p = describes_as (text_joined b) (describes_stop (bytes b) p)

@@ -1,28 +1,21 @@
 -- The describing call's answer and the lists after it, from what putting the model did. Assumes nothing.
 use mathlib.Core.Path.{◌≡◌, refl, sym, ap, ◌∙◌}
-use mathlib.Core.Bool.{Bool, true, false}
+use mathlib.Core.Bool.{Bool, true, false, ◌&&◌}
 use mathlib.Core.List.{List, ◌++◌}
 use Prim.Native.Nat.{ℕ, ◌+◌, ◌-◌, ◌≤◌}
 use native.Mathlib.Omega.{arith}
+use borrow.Author.Tests.{leb-true, le-leb}
+use lib.Dec.{leb}
 use lib.ListN.{length, take, drop, take-append-drop}
+use Rattle.std.specs.Prelude.{Option, None, Some}
 use Rattle.lvs_spec.specs.Model.{Model}
 use Rattle.lvs_description.specs.Format.{Lists}
 use Rattle.lvs_description.specs.Description.{lists_of, numbers_of, texts_of}
 use Rattle.lvs_description.specs.Answers.{on_front}
-use Rattle.lvs_describe.specs.Lent.{Put, Lent, State, state, Describes}
+use Rattle.lvs_describe.specs.Lent.{Fits, Put, Lent, Describes}
 use Rattle.lvs_describe.specs.Answers.{described}
-use Rattle.lvs_describe.specs.declared.Room.{Room}
-use Rattle.lvs_describe.specs.declared.Described.TheVariants.{Of, TooShort}
-use Rattle.lvs_describe.proofs.Rooms.{Fits, Left, kept, fit, spent, left, never, Fitted, fitted, fit_test, no_fit_test}
-
--- room for as many as the lists have
-abbrev all_of : List ℕ → List ℕ → Room
-all_of ns ts = record { ok = true; numbers = length ns; texts = length ts }
-
-did_not_fit : {l : Lists} {r r' : Room} → Left l r r' → r.ok ≡ true → r'.ok ≡ false → Fits l r → ⊥
-did_not_fit (kept e) f g h = never (sym f ∙ e)
-did_not_fit (fit e f) g h i = never h
-did_not_fit (spent e f) g h i = f i
+use Rattle.lvs_describe.specs.declared.Lengths.{Lengths}
+use Rattle.lvs_describe.specs.declared.output.Output.{Output}
 
 -- what was put from the front on
 on_front_lem : {at : ℕ} {xs before now : List ℕ} → at ≡ 0 → Put at xs before now → now ≡ on_front xs before
@@ -32,39 +25,69 @@ on_front_lem {at} {xs} {before} {now} e p =
     let g : drop (length xs) now ≡ drop (length xs) before = sym (ap (λ (i : ℕ). drop i now) n) ∙ p.back ∙ ap (λ (i : ℕ). drop i before) n in
     sym (take-append-drop (length xs) now) ∙ (λ i. f i ++ g i)
 
-lent_front : {ok : Bool} {xs before now : List ℕ} → ok ≡ true → Lent ok (length before) xs before now → now ≡ on_front xs before
-lent_front e p = on_front_lem (omega arith) (p.put e (omega arith))
+lent_front : {left : ℕ} {xs before now : List ℕ} → left ≡ length before → Lent left xs before now → now ≡ on_front xs before
+lent_front e p = on_front_lem (omega arith) (p.put (omega arith))
 
--- what is left is no more than there was
-module _ {l : Lists} {s s' : State} (d : Describes l s s') (ok : s'.room.ok ≡ true) where
-  pub numbers_left : s'.room.numbers ≤ s.room.numbers
-  numbers_left = omega (arith, ap (λ (r : Room). r.numbers) (fitted d.room_is ok).taken_is)
+and-true : (a b : Bool) → (a && b) ≡ true → (a ≡ true) × (b ≡ true)
+and-true true b e = (refl, e)
+and-true false b e = let z : ◌≡◌ {A = Bool} false true = e in absurd (let q : ◌≡◌ {A = ℕ} 0 1 = cc in omega arith)
 
-  pub texts_left : s'.room.texts ≤ s.room.texts
-  texts_left = omega (arith, ap (λ (r : Room). r.texts) (fitted d.room_is ok).taken_is)
+-- the state before: as much may be put as the lists that are described have
+pub record Begins (ns ts : List ℕ) (s : Output) : Type 0 where
+  pub numbers_all : s.numbers_left ≡ length ns
+  pub texts_all : s.texts_left ≡ length ts
 
 module _ (m : Model) (ns ts : List ℕ) where
-  -- `counted` is the state after the first time
-  module _ {ns₀ ts₀ : List ℕ} {counted : State} (d : Describes (lists_of m) (state (all_of ns ts) ns₀ ts₀) counted) where
-    pub too_short : counted.room.ok ≡ false → record { answer = TooShort; numbers = ns; texts = ts } ≡ described m ns ts
+  abbrev fit : Bool
+  fit = leb (length (numbers_of m)) (length ns) && leb (length (texts_of m)) (length ts)
+
+  abbrev l : Lists
+  l = lists_of m
+
+  fitting : {s : Output} → Begins ns ts s → fit ≡ true → Fits (lists_of m) s
+  unfolding numbers_of texts_of
+  fitting B e =
+      let both = and-true (leb (length (numbers_of m)) (length ns)) _ e in
+      let n : length (numbers_of m) ≤ length ns = leb-true _ _ both.0 in
+      let t : length (texts_of m) ≤ length ts = leb-true _ _ both.1 in
+      record { numbers_fit = omega (arith, n, B.numbers_all); texts_fit = omega (arith, t, B.texts_all) }
+
+  pub too_short : {s s' : Output} → Begins ns ts s → Describes (lists_of m) s s' None → record { answer = None; numbers = ns; texts = ts } ≡ described m ns ts
+  unfolding described
+  too_short {s} B d = go fit refl
+    where
+      go : (t : Bool) → fit ≡ t → record { answer = None; numbers = ns; texts = ts } ≡ described m ns ts
+      go true e = absurd (d.by_room (fitting B e))
+      go false e = rw e
+
+  -- counted from s to s', and put from a to b
+  module _ {s s' a : Output} (S : Begins ns ts s) (d : Describes (lists_of m) s s' (Some tt)) (A : Begins ns ts a) (p : a.numbers.now ≡ ns)
+      (q : a.texts.now ≡ ts) where
+    numbers_size : length ns - s'.numbers_left ≡ length l.numbers
+    numbers_size = omega (arith, d.by_room.numbers_taken, S.numbers_all)
+
+    texts_size : length ts - s'.texts_left ≡ length l.texts
+    texts_size = omega (arith, d.by_room.texts_taken, S.texts_all)
+
+    fits : fit ≡ true
+    unfolding numbers_of texts_of
+    fits =
+        let n : length l.numbers ≤ length ns = omega (arith, d.by_room.numbers_taken, S.numbers_all) in
+        let t : length l.texts ≤ length ts = omega (arith, d.by_room.texts_taken, S.texts_all) in
+        rw (le-leb _ _ n, le-leb _ _ t)
+
+    -- the answer
+    abbrev sizes : Lengths
+    sizes = record { numbers = length ns - s'.numbers_left; texts = length ts - s'.texts_left }
+
+    pub all_put : {b : Output} {r : Option (Unit {0})} {x y : List ℕ} → Describes l a b r → x ≡ b.numbers.now → y ≡ b.texts.now
+        → record { answer = Some sizes; numbers = x; texts = y } ≡ described m ns ts
     unfolding described numbers_of texts_of
-    too_short e = rw (no_fit_test {l = lists_of m} {r = all_of ns ts} (did_not_fit (left d.room_is) refl e))
-
-    module _ (ok : counted.room.ok ≡ true) where
-      known : Fitted (lists_of m) (all_of ns ts) counted.room
-      known = fitted d.room_is ok
-
-      pub all_put : {now : State} → Describes (lists_of m) (state (all_of ns ts) ns ts) now
-          → record { answer = Of (length ns - counted.room.numbers) (length ts - counted.room.texts); numbers = now.numbers; texts = now.texts }
-          ≡ described m ns ts
-      unfolding described numbers_of texts_of
-      all_put {now} f =
-          let l = lists_of m in
-          let still : now.room.ok ≡ true = ap (λ (r : Room). r.ok) (f.room_is ∙ sym d.room_is) ∙ ok in
-          let n : length ns - counted.room.numbers ≡ length l.numbers =
-          omega (arith, ap (λ (r : Room). r.numbers) known.taken_is, known.enough.numbers_fit) in
-          let t : length ts - counted.room.texts ≡ length l.texts =
-          omega (arith, ap (λ (r : Room). r.texts) known.taken_is, known.enough.texts_fit) in
-          let ns' = lent_front still f.numbers_are in
-          let ts' = lent_front still f.texts_are in
-          rw (fit_test known.enough) (λ i. record { answer = Of (n i) (t i); numbers = ns' i; texts = ts' i })
+    all_put {b} {r} {x} {y} f g h = (λ i. record { answer = Some sizes; numbers = g i; texts = h i }) ∙ go r f
+      where
+        go : (o : Option (Unit {0})) → Describes l a b o → record { answer = Some sizes; numbers = b.numbers.now; texts = b.texts.now } ≡ described m ns ts
+        go None f = absurd (f.by_room (fitting A fits))
+        go (Some x) f =
+            let n : b.numbers.now ≡ on_front l.numbers ns = lent_front (A.numbers_all ∙ ap length (sym p)) f.by_room.numbers_are ∙ ap (on_front l.numbers) p in
+            let t : b.texts.now ≡ on_front l.texts ts = lent_front (A.texts_all ∙ ap length (sym q)) f.by_room.texts_are ∙ ap (on_front l.texts) q in
+            rw fits (λ i. record { answer = Some (record { numbers = numbers_size i; texts = texts_size i }); numbers = n i; texts = t i })

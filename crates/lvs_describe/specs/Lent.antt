@@ -1,48 +1,32 @@
--- What putting a part of a description does to the room that is left and to the two lent lists. Definitions only.
-use Rattle.std.specs.Prelude.{ℕ, ◌+◌, ◌-◌, ◌≤◌, ◌≡◌, Bool, true, false, cond, ◌&&◌, List, ◌++◌, leb, length, take, drop}
+-- What putting a part of a description does to the two lent lists, and to what may still be put into them. Definitions only.
+use Rattle.std.specs.Prelude.{ℕ, ◌+◌, ◌-◌, ◌≤◌, ◌≡◌, List, ◌++◌, length, take, drop, Option, MatchOption}
 use Rattle.lvs_description.specs.Format.{Lists}
-use Rattle.lvs_describe.specs.declared.Room.{Room}
+use Rattle.lvs_describe.specs.declared.output.Output.{Output}
 
--- ---- the room
-
-abbrev pub no_room : Room
-no_room = record { ok = false; numbers = 0; texts = 0 }
-
-abbrev pub fits : Lists → Room → Bool
-fits l r = leb (length l.numbers) r.numbers && leb (length l.texts) r.texts
-
--- what a part leaves of it; from the first part on that does not fit there is none
-unfoldable pub room_after : Lists → Room → Room
-room_after l r =
-    cond r.ok
-    (cond (fits l r)
-    (record { ok = true; numbers = r.numbers - length l.numbers; texts = r.texts - length l.texts })
-    no_room)
-    r
-
--- ---- the lists
+-- a part fits what may still be put
+pub record Fits (l : Lists) (s : Output) : Type 0 where
+  pub numbers_fit : length l.numbers ≤ s.numbers_left
+  pub texts_fit : length l.texts ≤ s.texts_left
 
 -- xs stand in `now` from `at` on, behind what stood in front of them; what is behind them stays
 pub record Put (at : ℕ) (xs before now : List ℕ) : Type 0 where
   pub front : take (at + length xs) now ≡ take at before ++ xs
   pub back : drop (at + length xs) now ≡ drop (at + length xs) before
 
--- xs were put where the last `left` entries of a list begin. Where it has fewer, or they did not fit, what it holds is left open.
-pub record Lent (fit : Bool) (left : ℕ) (xs before now : List ℕ) : Type 0 where
+-- xs were put where the last `left` entries of a list begin. Where it has fewer, what it holds is left open.
+pub record Lent (left : ℕ) (xs before now : List ℕ) : Type 0 where
   pub kept : length now ≡ length before
-  pub put : fit ≡ true → left ≤ length before → Put (length before - left) xs before now
+  pub put : left ≤ length before → Put (length before - left) xs before now
 
--- the room that is left, and what the two lists hold
-pub record State : Type 0 where
-  pub room : Room
-  pub numbers : List ℕ
-  pub texts : List ℕ
+-- l was put, between two states
+pub record Wrote (l : Lists) (before now : Output) : Type 0 where
+  pub numbers_taken : now.numbers_left + length l.numbers ≡ before.numbers_left
+  pub texts_taken : now.texts_left + length l.texts ≡ before.texts_left
+  pub numbers_are : Lent before.numbers_left l.numbers before.numbers.now now.numbers.now
+  pub texts_are : Lent before.texts_left l.texts before.texts.now now.texts.now
 
-abbrev pub state : Room → List ℕ → List ℕ → State
-state r ns ts = record { room = r; numbers = ns; texts = ts }
-
--- THE CONTRACT OF EVERY FUNCTION HERE: l was put, between two states
-pub record Describes (l : Lists) (before now : State) : Type 0 where
-  pub room_is : now.room ≡ room_after l before.room
-  pub numbers_are : Lent now.room.ok before.room.numbers l.numbers before.numbers now.numbers
-  pub texts_are : Lent now.room.ok before.room.texts l.texts before.texts now.texts
+-- THE CONTRACT OF EVERY FUNCTION HERE: l was put, between two states of the same lists; or it does not fit
+pub record Describes (l : Lists) (before now : Output) (r : Option (Unit {0})) : Type 0 where
+  pub same_numbers : now.numbers.ghost_name ≡ before.numbers.ghost_name
+  pub same_texts : now.texts.ghost_name ≡ before.texts.ghost_name
+  pub by_room : MatchOption r (Fits l before → ⊥) (λ _. Wrote l before now)

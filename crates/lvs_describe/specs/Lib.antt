@@ -1,5 +1,4 @@
 pub mod Parts
 pub mod Lent
-pub mod Found
 pub mod Sorts
 pub mod Answers

@@ -10,10 +10,10 @@ use Rattle.lvs_spec.specs.Model.{symbol_of}
 use Rattle.lvs_description.specs.Format.{Lists, put, integer, text, maybe}
 use Rattle.lvs_description.specs.Description.{argument, term, option, constraint, value_edge, pattern_edge, node, symbol}
 use Rattle.lvs_describe.specs.Parts.{shown, row}
-use Rattle.lvs_describe.specs.declared.Counts.{Counts}
-use Rattle.lvs_describe.specs.declared.Sort.{Sort}
-use Rattle.lvs_describe.specs.declared.Sort.TheVariants.{Node, Symbol, Parent, RuleName, ValueEdge, PatternEdge, Signer, Constraint}
-use Rattle.lvs_describe.specs.declared.Sort.TheVariants.{ConstraintOption, Term, Argument}
+use Rattle.lvs_describe.specs.declared.rows.Counts.{Counts}
+use Rattle.lvs_describe.specs.declared.rows.Sort.{Sort}
+use Rattle.lvs_describe.specs.declared.rows.Sort.TheVariants.{Node, Symbol, Parent, RuleName, ValueEdge, PatternEdge, Signer, Constraint}
+use Rattle.lvs_describe.specs.declared.rows.Sort.TheVariants.{ConstraintOption, Term, Argument}
 
 -- a term is of one of three types
 unfoldable pub is_term : ℕ → Bool
@@ -31,9 +31,6 @@ is_of Constraint t = eqb t type.Constraint
 is_of ConstraintOption t = eqb t type.ConstraintOption
 is_of Term t = is_term t
 is_of Argument t = eqb t type.UserFnArg
-
-unfoldable pub one_of : Sort → ℕ → ℕ
-one_of k t = cond (is_of k t) 1 0
 
 -- the term that an element of type t with the inside b is
 unfoldable pub term_of : ℕ → List ℕ → ModelTerm

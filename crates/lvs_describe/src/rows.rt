@@ -4,143 +4,149 @@ ghost use Rattle.lvs_spec.specs.Model.{call_of, pattern_edge_of, node_of};
 ghost use Rattle.lvs_description.specs.Format.{put};
 ghost use Rattle.lvs_description.specs.Description.{call, pattern_edge, node};
 ghost use Rattle.lvs_describe.specs.Parts.{shown};
-ghost use Rattle.lvs_describe.specs.Lent.{state, Describes};
-ghost use Rattle.lvs_describe.specs.Sorts.{is_of, is_term, one_of, item_of, items_of, CountsOf, row_of};
+ghost use Rattle.lvs_describe.specs.Lent.{Describes};
+ghost use Rattle.lvs_describe.specs.Sorts.{is_of, item_of, items_of, CountsOf, row_of};
 
-use crate::lists::{put_number, put_numbered, put_pair, put_text};
+use crate::output::Output;
 use crate::parts::{put_argument, put_component, put_own, put_symbol, put_value_edge};
-use crate::{Counts, Room, Sort};
 use lvs_spec::types::{
     CONSTRAINT, CONSTRAINT_OPTION, FN_ID, IDENTIFIER, NODE, PARENT, PATTERN_EDGE, SIGN_CONSTRAINT,
     TAG, TAG_SYMBOL, USER_FN_ARG, USER_FN_CALL, VALUE, VALUE_EDGE,
 };
-use tlv::{Place, Read};
+use tlv::{Element, Elements};
 
-// The elements of one sort in `s`: how many there are, and each.
-#[cycle(puts)]
-pub(crate) fn put_row(
-    s: &[u8],
-    sort: Sort,
-    numbers: &mut [u64],
-    texts: &mut [u8],
-    room: Room,
-) -> Room
-    ensures { Describes (row_of sort s.now)
-        (state room numbers.old texts.old) (state result numbers.new texts.new) }
-{
-    let count = count_items(s, sort);
-    put_counted(s, sort, count, numbers, texts, room)
+// The elements of which a container may hold any number. Of Parents only the number is asked for: the first one counts. An enum and no closure that
+// puts an element: that is part of the cycle of calls below, in which a closure gets no proof.
+#[derive(Clone, Copy)]
+pub(crate) enum Sort {
+    Node,
+    Symbol,
+    Parent,
+    RuleName,
+    ValueEdge,
+    PatternEdge,
+    Signer,
+    Constraint,
+    ConstraintOption,
+    Term,
+    Argument,
 }
 
-// The same where they are counted already. Where there are none, `s` is not gone through.
-#[cycle(puts)]
-fn put_counted(
-    s: &[u8],
-    sort: Sort,
-    count: usize,
-    numbers: &mut [u64],
-    texts: &mut [u8],
-    room: Room,
-) -> Room
-    requires { count ≡ length (items_of sort s.now) }
-    ensures { Describes (row_of sort s.now)
-        (state room numbers.old texts.old) (state result numbers.new texts.new) }
-{
-    let mut rest = put_number(count as u64, numbers, room);
-    if count < 1 {
-        return rest;
-    }
-    let mut place = Place { at: 0 };
-    loop {
-        match place.element(s) {
-            Read::Found {
-                typ,
-                start,
-                end,
-                next,
-            } => {
-                place = next;
-                if is_of(sort, typ) {
-                    rest = put_item(&s[start..end], typ, sort, numbers, texts, rest);
-                }
-            }
-            Read::End => return rest,
-            Read::Malformed => return rest,
+impl Sort {
+    // Whether an element of type `typ` is of this sort.
+    #[tactic(auto, unfolding(crate::specs::Sorts::is_of, crate::specs::Sorts::is_term))]
+    fn holds(self, typ: u32) -> bool
+        ensures { result ≡ is_of self typ }
+    {
+        match self {
+            Sort::Node => typ == NODE,
+            Sort::Symbol => typ == TAG_SYMBOL,
+            Sort::Parent => typ == PARENT,
+            Sort::RuleName => typ == IDENTIFIER,
+            Sort::ValueEdge => typ == VALUE_EDGE,
+            Sort::PatternEdge => typ == PATTERN_EDGE,
+            Sort::Signer => typ == SIGN_CONSTRAINT,
+            Sort::Constraint => typ == CONSTRAINT,
+            Sort::ConstraintOption => typ == CONSTRAINT_OPTION,
+            Sort::Term => typ == VALUE || typ == TAG || typ == USER_FN_CALL,
+            Sort::Argument => typ == USER_FN_ARG,
         }
     }
 }
 
-// One element of type `typ`; `b` is its inside.
+// How many elements of each sort a Node holds.
+#[derive(Clone, Copy)]
+struct Counts {
+    parents: usize,
+    names: usize,
+    values: usize,
+    patterns: usize,
+    signers: usize,
+}
+
+// The elements of one sort in `s`: how many there are, and each.
 #[cycle(puts)]
-fn put_item(
-    b: &[u8],
-    typ: u32,
-    sort: Sort,
-    numbers: &mut [u64],
-    texts: &mut [u8],
-    room: Room,
-) -> Room
-    ensures { Describes (item_of sort typ b.now)
-        (state room numbers.old texts.old) (state result numbers.new texts.new) }
+pub(crate) fn put_row(s: &[u8], sort: Sort, out: &mut Output<'_>) -> Option<()>
+    ensures { Describes (row_of sort s.now) out.old out.new result }
 {
+    put_counted(s, sort, count_items(s, sort), out)
+}
+
+// The same where they are counted already. Where there are none, `s` is not gone through.
+#[cycle(puts)]
+fn put_counted(s: &[u8], sort: Sort, count: usize, out: &mut Output<'_>) -> Option<()>
+    requires { count ≡ length (items_of sort s.now) }
+    ensures { Describes (row_of sort s.now) out.old out.new result }
+{
+    out.number(count as u64)?;
+    if count < 1 {
+        return Some(());
+    }
+    for element in Elements::of(s) {
+        if sort.holds(element.typ) {
+            put_item(element, sort, out)?;
+        }
+    }
+    Some(())
+}
+
+// One element of a sort.
+#[cycle(puts)]
+fn put_item(element: Element<'_>, sort: Sort, out: &mut Output<'_>) -> Option<()>
+    ensures { Describes (item_of sort element.entry.typ element.entry.inside.now) out.old out.new result }
+{
+    let b = element.inside;
     match sort {
-        Sort::Node => put_node(b, numbers, texts, room),
-        Sort::Symbol => put_symbol(b, numbers, texts, room),
-        Sort::Parent => put_number(tlv::number_of(b), numbers, room),
-        Sort::RuleName => put_text(b, numbers, texts, room),
-        Sort::ValueEdge => put_value_edge(b, numbers, texts, room),
-        Sort::PatternEdge => put_pattern_edge(b, numbers, texts, room),
-        Sort::Signer => put_number(tlv::number_of(b), numbers, room),
-        Sort::Constraint => put_row(b, Sort::ConstraintOption, numbers, texts, room),
-        Sort::ConstraintOption => put_row(b, Sort::Term, numbers, texts, room),
-        Sort::Term => match typ {
-            VALUE => put_component(0, b, numbers, texts, room),
-            TAG => put_pair(1, tlv::number_of(b), numbers, room),
-            _ => put_call(b, numbers, texts, room),
+        Sort::Node => put_node(b, out),
+        Sort::Symbol => put_symbol(b, out),
+        Sort::Parent => out.number(tlv::number_of(b)),
+        Sort::RuleName => out.text(b),
+        Sort::ValueEdge => put_value_edge(b, out),
+        Sort::PatternEdge => put_pattern_edge(b, out),
+        Sort::Signer => out.number(tlv::number_of(b)),
+        Sort::Constraint => put_row(b, Sort::ConstraintOption, out),
+        Sort::ConstraintOption => put_row(b, Sort::Term, out),
+        Sort::Term => match element.typ {
+            VALUE => put_component(0, b, out),
+            TAG => out.pair(1, tlv::number_of(b)),
+            _ => put_call(b, out),
         },
-        Sort::Argument => put_argument(b, numbers, texts, room),
+        Sort::Argument => put_argument(b, out),
     }
 }
 
 #[cycle(puts)]
-fn put_node(b: &[u8], numbers: &mut [u64], texts: &mut [u8], room: Room) -> Room
-    ensures { Describes (shown node (node_of b.now))
-        (state room numbers.old texts.old) (state result numbers.new texts.new) }
+fn put_node(b: &[u8], out: &mut Output<'_>) -> Option<()>
+    ensures { Describes (shown node (node_of b.now)) out.old out.new result }
 {
     let count = count_each(b);
-    let own = put_own(b, count.parents, numbers, room);
-    let names = put_counted(b, Sort::RuleName, count.names, numbers, texts, own);
-    let values = put_counted(b, Sort::ValueEdge, count.values, numbers, texts, names);
-    let patterns = put_counted(b, Sort::PatternEdge, count.patterns, numbers, texts, values);
-    put_counted(b, Sort::Signer, count.signers, numbers, texts, patterns)
+    put_own(b, count.parents, out)?;
+    put_counted(b, Sort::RuleName, count.names, out)?;
+    put_counted(b, Sort::ValueEdge, count.values, out)?;
+    put_counted(b, Sort::PatternEdge, count.patterns, out)?;
+    put_counted(b, Sort::Signer, count.signers, out)
 }
 
 // Its Constraints are looked for behind the fields that are read already, where there is anything.
 #[cycle(puts)]
-fn put_pattern_edge(b: &[u8], numbers: &mut [u64], texts: &mut [u8], room: Room) -> Room
-    ensures { Describes (shown pattern_edge (pattern_edge_of b.now))
-        (state room numbers.old texts.old) (state result numbers.new texts.new) }
+fn put_pattern_edge(b: &[u8], out: &mut Output<'_>) -> Option<()>
+    ensures { Describes (shown pattern_edge (pattern_edge_of b.now)) out.old out.new result }
 {
     let fields = lvs_edges::pattern_fields(b);
-    let from = fields.rest;
-    let rest = put_pair(fields.dest, fields.tag, numbers, room);
-    if b.len() <= from {
-        return put_number(0, numbers, rest);
+    out.pair(fields.dest, fields.tag)?;
+    if b.len() <= fields.rest {
+        return out.number(0);
     }
-    put_row(&b[from..], Sort::Constraint, numbers, texts, rest)
+    put_row(&b[fields.rest..], Sort::Constraint, out)
 }
 
 // As a term: 2 and the UserFnCall.
 #[cycle(puts)]
-fn put_call(b: &[u8], numbers: &mut [u64], texts: &mut [u8], room: Room) -> Room
-    ensures { Describes (put 2 (shown call (call_of b.now)))
-        (state room numbers.old texts.old) (state result numbers.new texts.new) }
+fn put_call(b: &[u8], out: &mut Output<'_>) -> Option<()>
+    ensures { Describes (put 2 (shown call (call_of b.now))) out.old out.new result }
 {
-    let part = tlv::inside_of(b, FN_ID);
-    let start = part.start;
-    let end = part.end;
-    let rest = put_numbered(2, &b[start..end], numbers, texts, room);
-    put_row(b, Sort::Argument, numbers, texts, rest)
+    out.numbered(2, tlv::inside_of(b, FN_ID))?;
+    put_row(b, Sort::Argument, out)
 }
 
 // How many elements of each sort a Node holds, in one go.
@@ -154,88 +160,26 @@ fn count_each(node: &[u8]) -> Counts
         patterns: 0,
         signers: 0,
     };
-    let mut place = Place { at: 0 };
-    loop {
-        match place.element(node) {
-            Read::Found {
-                typ,
-                start: _,
-                end: _,
-                next,
-            } => {
-                place = next;
-                count = Counts {
-                    parents: count.parents + one_of(Sort::Parent, typ),
-                    names: count.names + one_of(Sort::RuleName, typ),
-                    values: count.values + one_of(Sort::ValueEdge, typ),
-                    patterns: count.patterns + one_of(Sort::PatternEdge, typ),
-                    signers: count.signers + one_of(Sort::Signer, typ),
-                };
-            }
-            Read::End => return count,
-            Read::Malformed => return count,
-        }
+    for element in Elements::of(node) {
+        let typ = element.typ;
+        count.parents += usize::from(Sort::Parent.holds(typ));
+        count.names += usize::from(Sort::RuleName.holds(typ));
+        count.values += usize::from(Sort::ValueEdge.holds(typ));
+        count.patterns += usize::from(Sort::PatternEdge.holds(typ));
+        count.signers += usize::from(Sort::Signer.holds(typ));
     }
+    count
 }
 
-// 1 for a type of the sort, 0 for another.
-fn one_of(sort: Sort, typ: u32) -> usize
-    ensures { result ≡ one_of sort typ }
-{
-    if is_of(sort, typ) { 1 } else { 0 }
-}
-
-// How many elements of one sort `s` holds. Only their headers are looked at.
+// How many elements of one sort `s` holds.
 fn count_items(s: &[u8], sort: Sort) -> usize
     ensures { result ≡ length (items_of sort s.now) }
 {
     let mut n = 0;
-    let mut place = Place { at: 0 };
-    loop {
-        match place.element(s) {
-            Read::Found {
-                typ,
-                start: _,
-                end: _,
-                next,
-            } => {
-                place = next;
-                if is_of(sort, typ) {
-                    n += 1;
-                }
-            }
-            Read::End => return n,
-            Read::Malformed => return n,
+    for element in Elements::of(s) {
+        if sort.holds(element.typ) {
+            n += 1;
         }
     }
-}
-
-fn is_of(sort: Sort, typ: u32) -> bool
-    ensures { result ≡ is_of sort typ }
-{
-    match sort {
-        Sort::Node => typ == NODE,
-        Sort::Symbol => typ == TAG_SYMBOL,
-        Sort::Parent => typ == PARENT,
-        Sort::RuleName => typ == IDENTIFIER,
-        Sort::ValueEdge => typ == VALUE_EDGE,
-        Sort::PatternEdge => typ == PATTERN_EDGE,
-        Sort::Signer => typ == SIGN_CONSTRAINT,
-        Sort::Constraint => typ == CONSTRAINT,
-        Sort::ConstraintOption => typ == CONSTRAINT_OPTION,
-        Sort::Term => is_term(typ),
-        Sort::Argument => typ == USER_FN_ARG,
-    }
-}
-
-fn is_term(typ: u32) -> bool
-    ensures { result ≡ is_term typ }
-{
-    if typ == VALUE {
-        return true;
-    }
-    if typ == TAG {
-        return true;
-    }
-    typ == USER_FN_CALL
+    n
 }

@@ -1,42 +1,22 @@
 -- A Node's body: the part of it where its edges and signers are. Assumes nothing.
-use Prim.Native.Nat.{ℕ, ◌+◌, ◌-◌, ◌≤◌}
+use Prim.Native.Nat.{ℕ, ◌-◌, ◌≤◌}
 use mathlib.Core.Path.{◌≡◌, refl, sym, ap, ◌∙◌}
 use mathlib.Core.Bool.{Bool, true, false}
 use mathlib.Core.List.{List, [], map}
 use native.Mathlib.Omega.{arith}
-use borrow.Author.Tests.{eq-eqb, ne_eqb}
-use lib.Dec.{eqb}
 use lib.ListN.{length, take, drop, get_or, length-drop, get_or-eq_default, get_or-map}
-use lib.Seq.{length-take-le, take-add, drop_at, drop-drop}
+use Rattle.lvs_bindings.proofs.Bound.{to_end}
 use Rattle.tlv.specs.Number.{integer}
-use Rattle.tlv.specs.Lists.{member}
 use Rattle.tlv.specs.Fields.{each_cut, insides, integers, the_inside, the_integer, number_of}
 use Rattle.tlv.specs.declared.Place.{Place}
-use Rattle.tlv.specs.declared.Part.{Part}
 use Rattle.tlv.proofs.Cuts.{Step, cuts_end, element_nil}
 use Rattle.tlv.proofs.Gathered.{each_none, insides_other}
 use Rattle.lvs_spec.specs.Types as type
 use Rattle.lvs_spec.specs.Model.{Node, no_node, node_at, node_of, model_of, edges}
-use Rattle.lvs_spec.specs.Walk.{lists}
 use Rattle.lvs_edges.specs.Edges.{edge_from, file_edges}
-use Rattle.lvs_edges.specs.Nodes.{node_inside, Walkable, in_body, BodyFrom, BodyPart}
-use Rattle.lvs_edges.proofs.Edges.{from_other}
-
--- ---- what belongs to it
-
-module _ {t : ℕ} where
-  pub in_value : t ≡ type.ValueEdge → true ≡ in_body t
-  unfolding in_body
-  in_value e = rw (eq-eqb t type.ValueEdge e)
-
-  module _ (a : t ≡ type.ValueEdge → ⊥) where
-    pub in_pattern : t ≡ type.PatternEdge → true ≡ in_body t
-    unfolding in_body
-    in_pattern e = rw (ne_eqb t type.ValueEdge a, eq-eqb t type.PatternEdge e)
-
-    pub in_signer : (t ≡ type.PatternEdge → ⊥) → eqb t type.SignConstraint ≡ in_body t
-    unfolding in_body
-    in_signer b = rw (ne_eqb t type.ValueEdge a, ne_eqb t type.PatternEdge b)
+use Rattle.lvs_edges.specs.Nodes.{node_inside, Walkable, in_body, BodyFrom}
+use Rattle.lvs_edges.proofs.Listed.{from_other}
+use Rattle.lvs_edges.proofs.Few.{inside_within}
 
 other_type : {t k : ℕ} → in_body t ≡ false → in_body k ≡ true → t ≡ k → ⊥
 other_type p q e = let r : ◌≡◌ {A = Bool} false true = sym p ∙ ap in_body e ∙ q in let z : ◌≡◌ {A = ℕ} 0 1 = cc in omega arith
@@ -73,48 +53,31 @@ signers_of model v = sym (ap (λ (n : Node). n.signers) (node_at_lem model v))
 pub edges_of : {model : List ℕ} → Walkable model → (v : ℕ) → file_edges (node_inside model v) ≡ edges (node_at (model_of model) v)
 edges_of {model} W v = W.ordered v ∙ ap edges (sym (node_at_lem model v))
 
--- ---- the part of the model
+-- ---- a Node's body, as it was read
 
-drop-take : (k n : ℕ) (l : List ℕ) → k ≤ length l → drop k (take (k + n) l) ≡ take n (drop k l)
-drop-take k n l h = rw (take-add k n l) (drop_at (take k l) (take n (drop k l)) k (length-take-le k l h))
+-- b is the body of the Node v
+pub record Body (model : List ℕ) (v : ℕ) (b : List ℕ) : Type 0 where
+  pub edges_are : file_edges b ≡ edges (node_at (model_of model) v)
+  pub signers_are : integers type.SignConstraint b ≡ (node_at (model_of model) v).signers
+  pub short : length b ≤ length model
 
--- from a Node's body on to its end
-pub body_part : {model : List ℕ} {v start stop k : ℕ} → Walkable model → start ≤ stop → stop ≤ length model
-    → node_inside model v ≡ take (stop - start) (drop start model) → BodyFrom (take (stop - start) (drop start model)) k
-    → BodyPart model v (record { start = start + k; end = stop })
-unfolding integers
-body_part {model} {v} {start} {stop} {k} W order within p B =
-    let d : length (drop start model) ≡ length model - start = length-drop start model in
-    let l : length (take (stop - start) (drop start model)) ≡ stop - start = length-take-le (stop - start) (drop start model) (omega arith) in
-    let w : k ≤ stop - start = omega (arith, B.within) in
-    let n : k + (stop - (start + k)) ≡ stop - start = omega arith in
-    let q : drop k (take (stop - start) (drop start model)) ≡ take (stop - (start + k)) (drop (start + k) model) =
-    ap (λ (x : ℕ). drop k (take x (drop start model))) (sym n) ∙ drop-take k (stop - (start + k)) (drop start model) (omega arith) ∙
-    ap (take (stop - (start + k))) (drop-drop k start model) in
+pub body_read : {model x : List ℕ} {v k : ℕ} → Walkable model → node_inside model v ≡ x → BodyFrom x k → Body model v (take (length x - k) (drop k x))
+unfolding integers node_inside
+body_read {model} {x} {v} {k} W p B =
+    let q = to_end x k in
     record {
-      order = omega arith;
-      within = within;
-      edges_are = ap file_edges (sym q) ∙ B.edges_are ∙ ap file_edges (sym p) ∙ edges_of W v;
-      signers_are =
-          ap (integers type.SignConstraint) (sym q) ∙ ap (map number_of) B.signers_are ∙ ap (integers type.SignConstraint) (sym p) ∙
-          signers_of model v;
+      edges_are = ap file_edges q ∙ B.edges_are ∙ ap file_edges (sym p) ∙ edges_of W v;
+      signers_are = ap (integers type.SignConstraint) q ∙ ap (map number_of) B.signers_are ∙ ap (integers type.SignConstraint) (sym p) ∙ signers_of model v;
+      short = omega (arith, ap length q, length-drop k x, ap length p, inside_within type.Node model v);
     }
 
 -- a Node that the model does not have
-pub no_body : {model : List ℕ} → Walkable model → (v : ℕ) → length (insides type.Node model) ≤ v → BodyPart model v (record { start = 0; end = 0 })
+pub no_body : {model : List ℕ} → Walkable model → (v : ℕ) → length (insides type.Node model) ≤ v → Body model v []
 unfolding node_inside
 no_body {model} W v h =
     let p : get_or (insides type.Node model) v [] ≡ [] = get_or-eq_default (insides type.Node model) [] {n = v} h in
     record {
-      order = omega arith;
-      within = omega arith;
       edges_are = ap file_edges (sym p) ∙ edges_of W v;
       signers_are = ap (integers type.SignConstraint) (sym p) ∙ signers_of model v;
+      short = omega arith;
     }
-
--- ---- signers
-
-pub lists_body : (model : List ℕ) (p k : ℕ) {b : Part} → BodyPart model p b
-    → member k (integers type.SignConstraint (take (b.end - b.start) (drop b.start model))) ≡ lists (model_of model) p k
-unfolding lists
-lists_body model p k B = ap (member k) B.signers_are

@@ -1,6 +1,6 @@
--- A Node has no more edges than its model has bytes, so that an ordinal fits a word of a path. Assumes nothing.
+-- There are no more edges than bytes, so that an ordinal fits a word of a path. Assumes nothing.
 use Prim.Native.Nat.{ℕ, zero, suc, ◌≤◌, ◌<◌}
-use mathlib.Core.Path.{◌≡◌, refl, ap}
+use mathlib.Core.Path.{◌≡◌, refl}
 use mathlib.Core.Bool.{Bool, true, false}
 use mathlib.Core.List.{List, [], ◌++◌}
 use native.Mathlib.Omega.{arith}
@@ -13,13 +13,11 @@ use Rattle.tlv.specs.Fields.{each_cut, inside_of, insides}
 use Rattle.tlv.proofs.Cuts.{by_elements, cuts_end, cuts_malformed, cuts_next, rest_shorter, element_whole}
 use Rattle.tlv.proofs.Gathered.{each_most}
 use Rattle.lvs_spec.specs.Types as type
-use Rattle.lvs_spec.specs.Model.{edges, node_at, model_of}
 use Rattle.lvs_edges.specs.Edges.{edge_of, edge_from, file_edges}
-use Rattle.lvs_edges.specs.Nodes.{node_inside, Walkable}
-use Rattle.lvs_edges.proofs.Bodies.{edges_of}
+use Rattle.lvs_edges.specs.declared.EdgeKind.TheVariants.{Value, Pattern}
 
 -- what is in an element is no longer than what the element is in
-inside_within : (k : ℕ) (s : List ℕ) (i : ℕ) → length (get_or (insides k s) i []) ≤ length s
+pub inside_within : (k : ℕ) (s : List ℕ) (i : ℕ) → length (get_or (insides k s) i []) ≤ length s
 unfolding insides inside_of each_cut
 inside_within k s =
     by_elements
@@ -46,18 +44,12 @@ one_edge e = go (eqb type.ValueEdge e.type) (eqb type.PatternEdge e.type) (λ p 
     both : eqb type.ValueEdge e.type ≡ true → eqb type.PatternEdge e.type ≡ true → ⊥
     both p q = omega (arith, eqb-true type.ValueEdge e.type p, eqb-true type.PatternEdge e.type q)
 
-    go : (t u : Bool) → (t ≡ true → u ≡ true → ⊥) → length (when t (edge_of false e.inside) ++ when u (edge_of true e.inside)) ≤ 1
+    go : (t u : Bool) → (t ≡ true → u ≡ true → ⊥) → length (when t (edge_of Value e.inside) ++ when u (edge_of Pattern e.inside)) ≤ 1
     go true true n = absurd (n refl refl)
     go true false n = omega arith
     go false true n = omega arith
     go false false n = omega arith
 
-pub edges_few : (b : List ℕ) → Walkable b → (v : ℕ) → length (edges (node_at (model_of b) v)) ≤ length b
-unfolding file_edges node_inside
-edges_few b W v =
-    omega (
-      arith,
-      ap length (edges_of W v),
-      each_most edge_from one_edge (node_inside b v),
-      inside_within type.Node b v,
-    )
+pub edges_few : (b : List ℕ) → length (file_edges b) ≤ length b
+unfolding file_edges
+edges_few b = each_most edge_from one_edge b

@@ -1,8 +1,8 @@
-pub mod Edges
-pub mod Bodies
-pub mod Places
-pub mod Plain
-pub mod Crossed
-pub mod Ordered
+pub mod Listed
+pub mod FixedPlaces
 pub mod Few
+pub mod Bodies
+pub mod Ordered
+pub mod Filled
+pub mod Crossed
 pub mod Rows

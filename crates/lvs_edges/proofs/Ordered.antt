@@ -23,9 +23,10 @@ use Rattle.lvs_spec.proofs.Lists.{clash}
 use Rattle.lvs_spec.proofs.Reading.{accepted_passed, accepted_judged}
 use Rattle.lvs_spec.proofs.Rules.{judge_few}
 use Rattle.lvs_spec.proofs.Grammar.{both, each_cut_nexts, Ordered, stop, skip, take, row}
+use Rattle.lvs_edges.specs.declared.EdgeKind.TheVariants.{Value, Pattern}
 use Rattle.lvs_edges.specs.Edges.{edge_of, edge_from, file_edges}
 use Rattle.lvs_edges.specs.Nodes.{node_inside, Walkable}
-use Rattle.lvs_edges.proofs.Edges.{from_value, from_pattern, from_other, no_edges}
+use Rattle.lvs_edges.proofs.Listed.{from_value, from_pattern, from_other, no_edges}
 use Rattle.lvs_edges.proofs.Bodies.{empty_node}
 
 -- ---- items of an order
@@ -162,7 +163,7 @@ module _ (inner : Kind → List ℕ → Bool) (k : Kind) where
 
   -- the edges of a row are its ValueEdges and then its PatternEdges
   row_edges : {items : List Item} {es : List Element} → Ordered inner k items es → apart type.ValueEdge type.PatternEdge items ≡ true
-      → each edge_from es ≡ map (edge_of false) (values_in es) ++ map (edge_of true) (patterns_in es)
+      → each edge_from es ≡ map (edge_of Value) (values_in es) ++ map (edge_of Pattern) (patterns_in es)
   unfolding meaning lookup known_types
   row_edges (stop h) a = refl
   row_edges (skip {e = e} q o) a =
@@ -176,8 +177,8 @@ module _ (inner : Kind → List ℕ → Bool) (k : Kind) where
       st = stepped items e.type s
 
       go : (x y : Bool) → eqb e.type type.ValueEdge ≡ x → eqb e.type type.PatternEdge ≡ y
-          → each edge_from es ≡ map (edge_of false) (values_in es) ++ map (edge_of true) (patterns_in es)
-          → each edge_from (e ∷ es) ≡ map (edge_of false) (values_in (e ∷ es)) ++ map (edge_of true) (patterns_in (e ∷ es))
+          → each edge_from es ≡ map (edge_of Value) (values_in es) ++ map (edge_of Pattern) (patterns_in es)
+          → each edge_from (e ∷ es) ≡ map (edge_of Value) (values_in (e ∷ es)) ++ map (edge_of Pattern) (patterns_in (e ∷ es))
       go true y x-is y-is rest =
           let t = eqb-true e.type type.ValueEdge x-is in
           let p : e.type ≡ type.PatternEdge → ⊥ = λ z. other (sym t ∙ z) in
@@ -234,10 +235,10 @@ node_edges zero x h = clash (cc)
 node_edges (suc n) x h =
     let R = row (well_formed_by n) node (order node) (cuts x) h in
     let es = R.elements in
-    let values : map (edge_of false) (values_in es) ≡ map Edge.value (map value_edge_of (insides type.ValueEdge x)) =
+    let values : map (edge_of Value) (values_in es) ≡ map Edge.value (map value_edge_of (insides type.ValueEdge x)) =
     map-map Edge.value value_edge_of (values_in es) ∙
     ap (λ l. map Edge.value (map value_edge_of l)) (sym (insides_row x es type.ValueEdge R.cut_is)) in
-    let patterns : map (edge_of true) (patterns_in es) ≡ map Edge.pattern (map pattern_edge_of (insides type.PatternEdge x)) =
+    let patterns : map (edge_of Pattern) (patterns_in es) ≡ map Edge.pattern (map pattern_edge_of (insides type.PatternEdge x)) =
     map-map Edge.pattern pattern_edge_of (patterns_in es) ∙
     ap (λ l. map Edge.pattern (map pattern_edge_of l)) (sym (insides_row x es type.PatternEdge R.cut_is)) in
     ap (each_cut edge_from) R.cut_is ∙ each_cut_nexts edge_from es ∙ row_edges (well_formed_by n) node R.ordered refl ∙ (λ i. values i ++ patterns i)

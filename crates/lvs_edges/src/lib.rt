@@ -1,256 +1,190 @@
 // A Node's edges, and crossing one with a component. Below the search, so that whoever follows a given path needs no search.
 //
-// `named` is NamedPatternCnt: a Tag above it is temporary, and has no binding. `packet` and `key` are the two names, `slots` the bindings as they
-// stand, and `c` the bytes of the component that is to pass, which stands at `at` of the names' text and has a header of `header` bytes.
+// `named` is NamedPatternCnt: a Tag above it is temporary, and has no binding. The component that is to pass stands at `at` of the names' text.
 //
-// A layer below the public calls: `requires` asks for such a component, such slots and, in `nodes`, for places; the search and the follower have
-// made them. Edges may be any bytes.
+// A layer below the public calls: `requires` asks for such a component, for slots in which only named Tags are bound and, in `nodes`, for a model
+// that can be walked; the search and the follower have made them. Edges may be any bytes.
 #![tactic(auto)]
 
+mod fields;
 pub mod nodes;
-pub mod sides;
 
-ghost use Rattle.std.specs.Prelude.{◌≡◌, true, length};
-ghost use Rattle.tlv.specs.Fields.{the_inside, the_integer};
-ghost use Rattle.lvs_spec.specs.Types as type;
-ghost use Rattle.lvs_names.specs.Contents.{Alone};
+ghost use Rattle.std.specs.Prelude.{◌≡◌, ◌≤◌, length};
 ghost use Rattle.lvs_bindings.specs.Slots.{binding_at};
-ghost use Rattle.lvs_edges.specs.Edges.{edge_of, EdgeFrom};
-ghost use Rattle.lvs_edges.specs.Crossing.{Ready, PlainNode, PlainValue, PlainPattern, FieldsOf, open_if, Crossed, CrossedValue};
+ghost use Rattle.lvs_edges.specs.Edges.{edge_of};
+ghost use Rattle.lvs_edges.specs.declared.EdgeKind.TheVariants as kind;
+ghost use Rattle.lvs_edges.specs.Crossing.{Ready, named_slot, same_as, Passed, Crossed, CrossedValue};
 
-use lvs_bindings::SLOT_WORDS;
-use lvs_spec::types::{NODE_ID, PATTERN_EDGE, TAG, VALUE, VALUE_EDGE};
-use tlv::{Place, Read};
+pub use fields::{PatternFields, destination, pattern_fields, value_of};
+use lvs_bindings::names::Names;
+use lvs_bindings::{Slots, Span};
+use lvs_constraints::Trial;
+use lvs_names::Component;
+use lvs_spec::types::{PATTERN_EDGE, VALUE_EDGE};
+use tlv::Elements;
 
-// Whether it is a PatternEdge; start and end of the edge's inside in its Node; the place after it.
-#[derive(Clone, Copy)]
-pub enum EdgeRead {
-    Edge(bool, usize, usize, usize),
-    End,
+#[derive(Clone, Copy, Debug, PartialEq, Eq)]
+pub enum EdgeKind {
+    Value,
+    Pattern,
 }
 
-// What a PatternEdge leads to and binds, and where in it the Constraints are from.
+/// An edge, by its inside.
 #[derive(Clone, Copy)]
-pub struct PatternFields {
-    pub dest: u64,
-    pub tag: u64,
-    pub rest: usize,
+pub struct Edge<'a> {
+    pub kind: EdgeKind,
+    pub inside: &'a [u8],
 }
 
-// An edge is shut, or leads to a Node; then the Tag that it has bound, 0 for none.
+/// The edges among a Node's elements, in file order.
 #[derive(Clone, Copy)]
-pub enum Crossing {
-    Shut,
-    Open(u64, u64),
+pub struct Edges<'a> {
+    pub elements: Elements<'a>,
 }
 
-// The next edge of a Node from a place on.
-pub fn edge_from(s: &[u8], at: usize) -> EdgeRead
-    ensures { EdgeFrom s.now at result }
-{
-    let mut place = Place { at };
-    loop {
-        match place.element(s) {
-            Read::Found {
-                typ,
-                start,
-                end,
-                next,
-            } => {
-                if typ == VALUE_EDGE {
-                    return EdgeRead::Edge(false, start, end, next.at);
-                }
-                if typ == PATTERN_EDGE {
-                    return EdgeRead::Edge(true, start, end, next.at);
-                }
-                place = next;
+/// The Node that an edge led to, and the Tag that it has bound.
+#[derive(Clone, Copy)]
+pub struct Crossing {
+    pub node: u64,
+    pub bound: Option<u64>,
+}
+
+impl<'a> Iterator for Edges<'a> {
+    ghost use Rattle.std.specs.Iterator.{YieldsFirstBy, item_count};
+    ghost use Rattle.lvs_edges.specs.Left.{edge_is, edges_left};
+
+    type Item = Edge<'a>;
+
+    ghost next_gives = { YieldsFirstBy edge_is edges_left };
+
+    ghost remaining = { item_count edges_left };
+
+    fn next(&mut self) -> Option<Edge<'a>> {
+        while let Some(e) = self.elements.next() {
+            if e.typ == VALUE_EDGE {
+                return Some(Edge {
+                    kind: EdgeKind::Value,
+                    inside: e.inside,
+                });
             }
-            Read::End => {
-                return EdgeRead::End;
-            }
-            Read::Malformed => {
-                return EdgeRead::End;
+            if e.typ == PATTERN_EDGE {
+                return Some(Edge {
+                    kind: EdgeKind::Pattern,
+                    inside: e.inside,
+                });
             }
         }
+        None
     }
 }
 
-// Crosses an edge.
+/// Crosses an edge, where it can be crossed.
 pub fn cross<'a>(
-    s: &[u8],
-    pattern: bool,
+    edge: Edge<'a>,
     named: u64,
-    packet: &'a [u8],
-    key: &'a [u8],
+    names: Names<'a>,
     at: usize,
-    c: &[u8],
-    header: usize,
-    slots: &mut [u32; SLOT_WORDS],
-) -> Crossing
-    requires { Ready named packet.now key.now at c.now header slots.old }
-    ensures { Crossed named packet.now key.now (edge_of pattern s.now)
-        (binding_at packet.now key.now at (length c.now)) slots.old result slots.new }
+    component: Component<'a>,
+    slots: &mut Slots,
+) -> Option<Crossing>
+    requires { Ready named names.packet.now names.key.now at component.bytes.now slots.old.spans }
+    ensures { Crossed named names.entry.packet.now names.entry.key.now (edge_of edge.entry.kind edge.entry.inside.now)
+        (binding_at names.entry.packet.now names.entry.key.now at (length component.entry.bytes.now)) slots.old.spans result slots.new.spans }
 {
-    if pattern {
-        return cross_pattern(s, named, packet, key, at, c, header, slots);
+    match edge.kind {
+        EdgeKind::Value => cross_value(edge.inside, component),
+        EdgeKind::Pattern => cross_pattern(edge.inside, named, names, at, component, slots),
     }
-    cross_value(s, c, header)
 }
 
-// Crosses a ValueEdge. Where it leads is read only when the component passes. A layer below: the walk, or the follower, has cut `c` out of a name.
-pub fn cross_value(s: &[u8], c: &[u8], header: usize) -> Crossing
-    requires { Alone c.now header }
-    ensures { CrossedValue s.now c.now result }
+/// Crosses a ValueEdge. Where it leads is read only when the component passes.
+pub fn cross_value(s: &[u8], component: Component) -> Option<Crossing>
+    ensures { CrossedValue s.now component.entry.bytes.now result }
 {
-    if lvs_names::compare(value_of(s), c, header).equal {
-        return Crossing::Open(destination(s), 0);
+    if !lvs_names::compare(value_of(s), component).equal {
+        return None;
     }
-    Crossing::Shut
+    Some(Crossing {
+        node: destination(s),
+        bound: None,
+    })
 }
 
-// Crosses a PatternEdge: a bound Tag is compared, and an unbound one is bound. Constraints are tested before that; for a temporary Tag they are
-// all there is to test. Most edges have none, and are crossed without a call.
+/// Crosses a PatternEdge: a bound Tag is compared, and an unbound one is bound. Constraints are tested before that; for a temporary Tag they are
+/// all there is to test.
 pub fn cross_pattern<'a>(
-    s: &[u8],
+    s: &'a [u8],
     named: u64,
-    packet: &'a [u8],
-    key: &'a [u8],
+    names: Names<'a>,
     at: usize,
-    c: &[u8],
-    header: usize,
-    slots: &mut [u32; SLOT_WORDS],
-) -> Crossing
-    requires { Ready named packet.now key.now at c.now header slots.old }
-    ensures { Crossed named packet.now key.now (edge_of true s.now)
-        (binding_at packet.now key.now at (length c.now)) slots.old result slots.new }
+    component: Component<'a>,
+    slots: &mut Slots,
+) -> Option<Crossing>
+    requires { Ready named names.packet.now names.key.now at component.bytes.now slots.old.spans }
+    ensures { Crossed named names.entry.packet.now names.entry.key.now (edge_of kind.Pattern s.now)
+        (binding_at names.entry.packet.now names.entry.key.now at (length component.entry.bytes.now)) slots.old.spans result slots.new.spans }
 {
     let fields = pattern_fields(s);
+    let node = fields.dest;
     let tag = fields.tag;
-    let rest = fields.rest;
-    let unconstrained = rest == s.len();
+    let bound = named_slot(slots, named, tag);
+    if !passes(s, fields.rest, bound, names, component, slots) {
+        return None;
+    }
+    if bound.is_some() {
+        return Some(Crossing { node, bound: None });
+    }
     if named < tag {
-        if unconstrained {
-            return Crossing::Open(fields.dest, 0);
-        }
-        let held = lvs_constraints::constraints_hold(&s[rest..], packet, key, slots, c, header);
-        return open_if(held, fields.dest);
+        return Some(Crossing { node, bound: None });
     }
-    let slot = lvs_bindings::slot_of(slots, tag);
-    if slot.size == 0 {
-        if unconstrained {
-            return Crossing::Open(fields.dest, lvs_bindings::bind_tag(slots, tag, at, c.len()));
-        }
-        if !lvs_constraints::constraints_hold(&s[rest..], packet, key, slots, c, header) {
-            return Crossing::Shut;
-        }
-        return Crossing::Open(fields.dest, lvs_bindings::bind_tag(slots, tag, at, c.len()));
-    }
-    let text = lvs_bindings::text_from(packet, key, slot.start as usize);
-    if !lvs_names::compare(text, c, header).equal {
-        return Crossing::Shut;
-    }
-    if unconstrained {
-        return Crossing::Open(fields.dest, 0);
-    }
-    let held = lvs_constraints::constraints_hold(&s[rest..], packet, key, slots, c, header);
-    open_if(held, fields.dest)
+    let size = component.bytes.len() as u32;
+    slots.bind(
+        tag,
+        Span {
+            start: at as u32,
+            size,
+        },
+    );
+    Some(Crossing {
+        node,
+        bound: Some(tag),
+    })
 }
 
-// Crosses an edge that binds nothing, where the Constraints have held.
-fn open_if(held: bool, dest: u64) -> Crossing
-    ensures { result ≡ open_if held dest }
+// What a Tag is bound to; a temporary one to nothing.
+#[tactic(auto, unfolding(crate::specs::Crossing::named_slot))]
+fn named_slot(slots: &Slots, named: u64, tag: u64) -> Option<Span>
+    ensures { result ≡ named_slot named tag slots.now.spans }
 {
-    if held {
-        return Crossing::Open(dest, 0);
-    }
-    Crossing::Shut
+    if tag <= named { slots.get(tag) } else { None }
 }
 
-// Where an edge leads. Here and below a plain edge's fields are read by their places, and any other edge is searched for them.
-pub fn destination(s: &[u8]) -> u64
-    ensures { result ≡ the_integer type.NodeId s.now }
+// Whether a component passes a PatternEdge whose Tag is bound so, and whose Constraints are from `rest` on. Most edges have none.
+fn passes<'a>(
+    s: &'a [u8],
+    rest: usize,
+    bound: Option<Span>,
+    names: Names<'a>,
+    component: Component<'a>,
+    slots: &Slots,
+) -> bool
+    requires { rest ≤ length s.now }
+    ensures { Passed names.entry.packet.now names.entry.key.now s.now rest bound component.entry.bytes.now slots.now.spans result }
 {
-    if plain_node(s) {
-        return s[2] as u64;
-    }
-    tlv::number_in(s, NODE_ID)
+    let trial = Trial {
+        names,
+        slots,
+        component,
+    };
+    same_as(bound, names, component) && (rest == s.len() || trial.constraints_hold(&s[rest..]))
 }
 
-// What the Value of a ValueEdge holds.
-pub fn value_of(s: &[u8]) -> &[u8]
-    ensures { result.now ≡ the_inside type.Value s.now }
+// Whether a component is the one that a Tag is bound to, if it is bound.
+fn same_as<'a>(bound: Option<Span>, names: Names<'a>, component: Component<'a>) -> bool
+    ensures { result ≡ same_as names.entry.packet.now names.entry.key.now bound component.entry.bytes.now }
 {
-    if plain_value(s) {
-        return &s[5..];
+    match bound {
+        None => true,
+        Some(span) => lvs_names::compare(names.text_from(span.start as usize), component).equal,
     }
-    let part = tlv::inside_of(s, VALUE);
-    let start = part.start;
-    let end = part.end;
-    &s[start..end]
-}
-
-// Where a PatternEdge leads, what it binds, and where its Constraints are.
-pub fn pattern_fields(s: &[u8]) -> PatternFields
-    ensures { FieldsOf s.now result }
-{
-    if plain_pattern(s) {
-        return PatternFields {
-            dest: s[2] as u64,
-            tag: s[5] as u64,
-            rest: 6,
-        };
-    }
-    PatternFields {
-        dest: tlv::number_in(s, NODE_ID),
-        tag: tlv::number_in(s, TAG),
-        rest: 0,
-    }
-}
-
-// Whether an edge begins with a NodeId of one byte, as nearly all do; it is free to say no.
-fn plain_node(s: &[u8]) -> bool
-    ensures { result ≡ true → PlainNode s.now }
-{
-    if s.len() < 3 {
-        return false;
-    }
-    if s[0] as u32 != NODE_ID {
-        return false;
-    }
-    s[1] == 1
-}
-
-// Whether a ValueEdge is such a NodeId and a Value, as nearly all are; it is free to say no. The length is tested first: the walk takes 2 percent less so.
-fn plain_value(s: &[u8]) -> bool
-    ensures { result ≡ true → PlainValue s.now }
-{
-    if s.len() < 5 {
-        return false;
-    }
-    if 257 < s.len() {
-        return false;
-    }
-    if !plain_node(s) {
-        return false;
-    }
-    if s[3] as u32 != VALUE {
-        return false;
-    }
-    s[4] as usize == s.len() - 5
-}
-
-// Whether a PatternEdge begins with such a NodeId and a Tag of one byte, as nearly all do; it is free to say no.
-fn plain_pattern(s: &[u8]) -> bool
-    ensures { result ≡ true → PlainPattern s.now }
-{
-    if s.len() < 6 {
-        return false;
-    }
-    if !plain_node(s) {
-        return false;
-    }
-    if s[3] as u32 != TAG {
-        return false;
-    }
-    s[4] == 1
 }

@@ -1,154 +1,113 @@
 // Where the Nodes of a model are, and what they list.
-//
-// `places` has two words for each Node: where its edges and signers start in the model, and where it ends. `requires` asks for words that
-// `node_places` has filled, and that asks for words that are all 0 and for a model that can be walked.
 ghost use Rattle.std.specs.Prelude.{◌≡◌};
-ghost use Rattle.tlv.specs.Lists.{member};
-ghost use Rattle.tlv.specs.Fields.{integers};
-ghost use Rattle.lvs_spec.specs.Types as type;
-ghost use Rattle.lvs_spec.specs.Model.{model_of};
-ghost use Rattle.lvs_spec.specs.Walk.{lists};
-ghost use Rattle.lvs_edges.specs.Nodes.{Walkable, no_places, in_body, BodyFrom, part_at, NodesAt};
+ghost use Rattle.lvs_edges.specs.Nodes.{Walkable, in_body, BodyFrom, NodesAt};
 
-use lvs_spec::types::{NODE, PATTERN_EDGE, SIGN_CONSTRAINT, VALUE_EDGE};
-use tlv::{Part, Place, Read};
+use super::Edges;
+use lvs_spec::MAX_NODES;
+use lvs_spec::types::{
+    NAMED_PATTERN_CNT, NODE, NODE_ID, PATTERN_EDGE, SIGN_CONSTRAINT, VALUE_EDGE,
+};
+use tlv::{Elements, Place, Read};
 
-pub const PLACE_WORDS: usize = lvs_spec::MAX_NODES * 2;
-
-// The part of the model that has a Node's edges and signers; an empty one where the model has no such Node.
-pub fn node_part(places: &[u32; PLACE_WORDS], node: u64) -> Part
-    ensures { result ≡ part_at places.now node }
-{
-    if lvs_spec::MAX_NODES as u64 <= node {
-        return Part { start: 0, end: 0 };
-    }
-    let i = node as usize * 2;
-    Part {
-        start: word(places[i]),
-        end: word(places[i + 1]),
-    }
+/// A model that can be walked, with the part of each Node that has its edges and signers; no bytes for a Node that the model does not have.
+#[derive(Drop)]
+pub struct Nodes<'a> {
+    pub model: &'a [u8],
+    pub bodies: [&'a [u8]; MAX_NODES],
+    pub ghost read: { NodesAt model.now bodies },
 }
 
-// A word as a place. A parameter is known to fit, which an array's element read through a reference is not.
-fn word(w: u32) -> usize
-    ensures { result ≡ w }
-{
-    w as usize
+impl<'a> Nodes<'a> {
+    ghost use Rattle.std.specs.Prelude.{◌≤◌, length};
+    ghost use Rattle.tlv.specs.Fields.{the_integer};
+    ghost use Rattle.lvs_spec.specs.Limits.{max_model_bytes};
+    ghost use Rattle.lvs_spec.specs.Model.{model_of, node_at, edges};
+    ghost use Rattle.lvs_spec.specs.Walk.{lists};
+    ghost use Rattle.lvs_edges.specs.Nodes.{body_at};
+    ghost use Rattle.lvs_edges.specs.Left.{edges_left};
+
+    pub fn of(model: &'a [u8]) -> Nodes<'a>
+        requires { Walkable model.now }
+        ensures { result.model ≡ model.entry }
+    {
+        let mut bodies: [&[u8]; MAX_NODES] = [&[]; MAX_NODES];
+        let mut n: usize = 0;
+        for e in Elements::of(model) {
+            if e.typ == NODE {
+                bodies[n] = &e.inside[body_of(e.inside)..];
+                n += 1;
+            }
+        }
+        Nodes { model, bodies }
+    }
+
+    /// Where a walk begins.
+    #[tactic(auto, unfolding(lvs_spec::specs::Model::model_of))]
+    pub fn start(&self) -> u64
+        ensures { result ≡ (model_of self.now.model.now).start }
+    {
+        tlv::number_in(self.model, NODE_ID)
+    }
+
+    /// How many Tags are named.
+    #[tactic(auto, unfolding(lvs_spec::specs::Model::model_of))]
+    pub fn named(&self) -> u64
+        ensures { result ≡ (model_of self.now.model.now).pattern_count }
+    {
+        tlv::number_in(self.model, NAMED_PATTERN_CNT)
+    }
+
+    fn body(&self, node: u64) -> &'a [u8]
+        ensures { result.now ≡ body_at self.now.bodies node }
+    {
+        match self.bodies.get(node as usize) {
+            Some(body) => body,
+            None => &[],
+        }
+    }
+
+    /// A Node's edges, in the order in which they are tried.
+    pub fn edges(&self, node: u64) -> Edges<'a>
+        ensures left { edges_left result ≡ edges (node_at (model_of self.now.model.now) node) }
+        ensures few { length (edges_left result) ≤ max_model_bytes }
+    {
+        Edges {
+            elements: Elements::of(self.body(node)),
+        }
+    }
+
+    /// Whether the packet's node lists the key's.
+    pub fn lists(&self, node: u64, signer: u64) -> bool
+        ensures { result ≡ lists (model_of self.now.model.now) node signer }
+    {
+        Elements::of(self.body(node)).any(|e| e.typ == SIGN_CONSTRAINT
+            && tlv::number_of(e.inside) == signer)
+    }
 }
 
 // What the walk looks for in a Node: edges and signers.
+#[tactic(auto, unfolding(crate::specs::Nodes::in_body))]
 fn in_body(typ: u32) -> bool
     ensures { result ≡ in_body typ }
 {
-    if typ == VALUE_EDGE {
-        return true;
-    }
-    if typ == PATTERN_EDGE {
-        return true;
-    }
-    typ == SIGN_CONSTRAINT
+    typ == VALUE_EDGE || typ == PATTERN_EDGE || typ == SIGN_CONSTRAINT
 }
 
-// The place of the first of those in a Node, or a place from which on there are none.
+// The place of the first of those in a Node, or a place from which on there are none. It needs a place, which an iteration does not give.
 fn body_of(s: &[u8]) -> usize
     ensures { BodyFrom s.now result }
 {
     let mut place = Place { at: 0 };
     loop {
-        let at = place.at;
         match place.element(s) {
-            Read::Found {
-                typ,
-                start: _,
-                end: _,
-                next,
-            } => {
+            Read::Found { typ, next, .. } => {
                 if in_body(typ) {
-                    return at;
+                    return place.at;
                 }
                 place = next;
             }
-            Read::End => {
-                return at;
-            }
-            Read::Malformed => {
-                return at;
-            }
+            Read::End => return place.at,
+            Read::Malformed => return place.at,
         }
     }
-}
-
-// Records the two words of each Node.
-pub fn node_places(model: &[u8], places: &mut [u32; PLACE_WORDS])
-    requires walkable { Walkable model.now }
-    requires places_value { places.old ≡ no_places }
-    ensures { NodesAt model.now places.new }
-{
-    let mut place = Place { at: 0 };
-    let mut n: usize = 0;
-    loop {
-        match place.element(model) {
-            Read::Found {
-                typ,
-                start,
-                end,
-                next,
-            } => {
-                place = next;
-                if typ == NODE {
-                    let body = start + body_of(&model[start..end]);
-                    places[n * 2] = body as u32;
-                    places[n * 2 + 1] = end as u32;
-                    n += 1;
-                }
-            }
-            Read::End => {
-                return;
-            }
-            Read::Malformed => {
-                return;
-            }
-        }
-    }
-}
-
-// Whether a Node lists a signer.
-fn lists_signer(s: &[u8], signer: u64) -> bool
-    ensures { result ≡ member signer (integers type.SignConstraint s.now) }
-{
-    let mut place = Place { at: 0 };
-    loop {
-        match place.element(s) {
-            Read::Found {
-                typ,
-                start,
-                end,
-                next,
-            } => {
-                place = next;
-                if typ == SIGN_CONSTRAINT {
-                    if tlv::number_of(&s[start..end]) == signer {
-                        return true;
-                    }
-                }
-            }
-            Read::End => {
-                return false;
-            }
-            Read::Malformed => {
-                return false;
-            }
-        }
-    }
-}
-
-// Whether the packet's node lists the key's.
-pub fn lists_node(model: &[u8], places: &[u32; PLACE_WORDS], node: u64, signer: u64) -> bool
-    requires { NodesAt model.now places.now }
-    ensures { result ≡ lists (model_of model.now) node signer }
-{
-    let part = node_part(places, node);
-    let a = part.start;
-    let b = part.end;
-    lists_signer(&model[a..b], signer)
 }

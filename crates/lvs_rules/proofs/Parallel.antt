@@ -20,7 +20,7 @@ use Rattle.lvs_spec.specs.Limits.{max_nodes}
 use Rattle.lvs_spec.specs.Types as type
 use Rattle.lvs_spec.specs.Model.{Edge, destination, edges, value_edge_of, pattern_edge_of, node_of}
 use Rattle.lvs_spec.specs.Verdict.{destinations}
-use Rattle.lvs_spec.proofs.Lists.{eqb_sym}
+use Rattle.tlv.proofs.Iterated.{eqb_sym}
 use Rattle.lvs_rules.specs.Lowest.{no_rule, broken, least_of, destination_rule, destinations_rule, Noted}
 use Rattle.lvs_rules.proofs.Least.{min_pairs, min_swap, least_append}
 use Rattle.lvs_rules.proofs.Loops.{least_more}

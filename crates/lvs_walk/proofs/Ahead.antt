@@ -10,8 +10,8 @@ use Rattle.lvs_spec.specs.Walk.{Binding, Bindings, bindings_after, Match, Event,
 use Rattle.lvs_spec.proofs.Trace.{each_same}
 use Rattle.lvs_names.specs.Rows.{row_from}
 use Rattle.lvs_walk.specs.Search.{Hit, listed, worth, hits, mapped}
-use Rattle.lvs_walk.specs.declared.Goal.{Goal}
-use Rattle.lvs_walk.specs.declared.Goal.TheVariants.{Match as AnyMatch, Packet, Key}
+use Rattle.lvs_walk.specs.declared.search.Goal.{Goal}
+use Rattle.lvs_walk.specs.declared.search.Goal.TheVariants.{Match as AnyMatch, Packet, Key}
 use Rattle.lvs_walk.proofs.Retold.{retold, map-append, retold_each}
 
 -- these ordinals in front of a match's path, and of a hit's

@@ -9,13 +9,16 @@ use Rattle.lvs_spec.specs.Model.{Model, Edge, edges, node_at}
 use Rattle.lvs_spec.specs.Walk.{Binding, Match, Event, looked, found, continue, found_in, answers, begin, cross, trace, key_trace, lists}
 use Rattle.lvs_spec.proofs.Lists.{first_append, each_append, each_each}
 use Rattle.lvs_spec.proofs.Trace.{each_same}
-use Rattle.lvs_bindings.specs.Slots.{Room, bindings_of}
-use Rattle.lvs_edges.specs.Sides.{name_for, row_for}
+use Rattle.lvs_bindings.specs.Slots.{bindings_of}
+use Rattle.lvs_bindings.specs.Names.{name_for}
+use Rattle.lvs_edges.specs.Sides.{row_for}
 use Rattle.lvs_walk.specs.Search.{Hit, listed, worth, hits, first_found, side_of, found_if, Started, written, hit_of, First}
-use Rattle.lvs_walk.specs.declared.Goal.{Goal}
-use Rattle.lvs_walk.specs.declared.Goal.TheVariants.{Match as AnyMatch, Packet, Key}
-use Rattle.lvs_walk.specs.declared.Found.{Found}
-use Rattle.lvs_walk.specs.declared.Found.TheVariants.{At}
+use Rattle.lvs_walk.specs.declared.search.Goal.{Goal}
+use Rattle.lvs_walk.specs.declared.search.Goal.TheVariants.{Match as AnyMatch, Packet, Key}
+use Rattle.std.specs.declared.option.Option.{Option as Answer}
+use Rattle.lvs_bindings.specs.declared.Span.{Span}
+use Rattle.lvs_walk.specs.declared.search.Pair.{Pair as Nodes}
+use Rattle.std.specs.declared.option.Option.TheVariants.{None, Some}
 
 -- ---- the first answer of a trace
 
@@ -64,24 +67,24 @@ module _ (m : Model) (key : List ℕ) (goal : Goal) where
 starts : (m : Model) {goal : Goal} {start from : ℕ} → goal ≡ Packet start from → Started m goal → start ≡ m.start
 starts m g s = subst (Started m) g s
 
-module _ (m : Model) (packet key : List ℕ) (goal : Goal) (v at depth : ℕ) (slots path : List ℕ) (room : Room slots)
+module _ (m : Model) (packet key : List ℕ) (goal : Goal) (v at depth : ℕ) (slots : List (Answer Span)) (path : List ℕ)
     (ended : row_for packet key (side_of goal) at ≡ []) where
   abbrev here : Match
   here = record { node = v; bindings = bindings_of packet key slots; path = [] }
 
   -- what the walk from here on promises
-  abbrev Ends : Found → List ℕ → List ℕ → Type 0
+  abbrev Ends : Answer Nodes → List (Answer Span) → List ℕ → Type 0
   Ends = First packet key (hits m key goal (row_for packet key (side_of goal) at) here) depth slots path
 
   worth_is : first_found (hits m key goal (row_for packet key (side_of goal) at) here) ≡ first_found (worth m key goal here)
   worth_is = ap first_found (rw ended (hits_end m key goal here))
 
-  pub end_match : goal ≡ AnyMatch → Ends (At v v) slots path
+  pub end_match : goal ≡ AnyMatch → Ends (Some (record { packet = v; key = v })) slots path
   unfolding worth first_found written
-  end_match g = record { crossed = []; answer = sym (worth_is ∙ rw g); path_is = refl; kept = λ z. refl; path_kept = λ z. refl; room = room }
+  end_match g = record { crossed = []; answer = sym (worth_is ∙ rw g); path_is = refl; kept = λ z. refl; path_kept = λ z. refl }
 
   -- a key match is worth an answer at a signer
-  pub end_key : {p : ℕ} → goal ≡ Key p → {r : Found} → r ≡ found_if (lists m p v) p v → Ends r slots path
+  pub end_key : {p : ℕ} → goal ≡ Key p → {r : Answer Nodes} → r ≡ found_if (lists m p v) p v → Ends r slots path
   unfolding worth listed first_found found_if written
   end_key {p} g e =
       record {
@@ -90,7 +93,6 @@ module _ (m : Model) (packet key : List ℕ) (goal : Goal) (v at depth : ℕ) (s
         path_is = refl;
         kept = λ z. refl;
         path_kept = λ z. refl;
-        room = room;
       }
     where
       go : (t : Bool) → hit_of packet key (found_if t p v) slots [] ≡
@@ -99,7 +101,7 @@ module _ (m : Model) (packet key : List ℕ) (goal : Goal) (v at depth : ℕ) (s
       go false = refl
 
   -- a packet match is worth the walk of the key from its bindings
-  pub end_packet : {start from : ℕ} → goal ≡ Packet start from → Started m goal → {q : Found} {slots-after path-after : List ℕ}
+  pub end_packet : {start from : ℕ} → goal ≡ Packet start from → Started m goal → {q : Answer Nodes} {slots-after : List (Answer Span)} {path-after : List ℕ}
       → First packet key
       (hits m key (Key v) (row_for packet key (side_of (Key v)) from) (record { node = start; bindings = bindings_of packet key slots; path = [] }))
       depth slots path q slots-after path-after
@@ -112,5 +114,4 @@ module _ (m : Model) (packet key : List ℕ) (goal : Goal) (v at depth : ℕ) (s
         path_is = f.path_is;
         kept = f.kept;
         path_kept = f.path_kept;
-        room = f.room;
       }

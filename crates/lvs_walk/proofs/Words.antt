@@ -6,7 +6,9 @@ use native.Mathlib.Omega.{arith}
 use lib.ListN.{length, length-set, take, drop, set, take-append-drop}
 use Rattle.lvs_spec.specs.Walk.{Event}
 use Rattle.lvs_walk.specs.Search.{Hit, written, First}
-use Rattle.lvs_walk.specs.declared.Found.{Found}
+use Rattle.std.specs.declared.option.Option.{Option as Answer}
+use Rattle.lvs_bindings.specs.declared.Span.{Span}
+use Rattle.lvs_walk.specs.declared.search.Pair.{Pair as Nodes}
 
 -- no word is added
 written_length : (d : ℕ) (p words : List ℕ) → length (written d p words) ≡ length words
@@ -14,7 +16,8 @@ unfolding written
 written_length d [] words = refl
 written_length d (i ∷ p) words = length-set (written (d + 1) p words) d i ∙ written_length (d + 1) p words
 
-pub length-first : {packet key : List ℕ} {t : List (Event Hit)} {depth : ℕ} {slots path : List ℕ} {r : Found} {slots-after path-after : List ℕ}
+pub length-first : {packet key : List ℕ} {t : List (Event Hit)} {depth : ℕ} {slots : List (Answer Span)} {path : List ℕ} {r : Answer Nodes}
+    {slots-after : List (Answer Span)} {path-after : List ℕ}
     → First packet key t depth slots path r slots-after path-after → length path-after ≡ length path
 length-first {depth = depth} {path = path} f = ap length f.path_is ∙ written_length depth f.crossed path
 

@@ -1,22 +1,21 @@
 -- What a walk looks for. A hit is a match that is worth an answer: for the match call any match of the packet name, for the signing call a key
 -- match at a signer that the packet's node lists. Hits are read off a trace, as matches and pairs are.
-use Rattle.std.specs.Prelude.{ℕ, ◌+◌, ◌-◌, ◌≤◌, ◌≡◌, Bool, cond, List, [], ◌∷◌, ◌++◌, length, set}
+use Rattle.std.specs.Prelude.{ℕ, ◌+◌, ◌-◌, ◌≡◌, Bool, cond, List, [], ◌∷◌, ◌++◌, length, set}
 use Rattle.std.proofs.Math.Option.{Option, none, some}
+use Rattle.std.specs.declared.option.Option.{Option as Answer}
+use Rattle.std.specs.declared.option.Option.TheVariants.{None, Some}
 use Rattle.tlv.specs.Lists.{each, when, first}
-use Rattle.lvs_spec.specs.Limits.{max_name_bytes}
-use Rattle.lvs_spec.specs.Model.{Model, model_of}
+use Rattle.lvs_spec.specs.Model.{Model}
 use Rattle.lvs_spec.specs.Walk.{Binding, Bindings, Match, Event, found, continue, answers, trace, key_trace, lists}
-use Rattle.lvs_spec.specs.Demands.{OnlyNamed}
 use Rattle.lvs_names.specs.Rows.{row_from}
-use Rattle.lvs_bindings.specs.Slots.{Room, bindings_of}
-use Rattle.lvs_edges.specs.Nodes.{NodesAt}
-use Rattle.lvs_edges.specs.Sides.{name_for}
-use Rattle.lvs_names.specs.declared.Side.{Side}
-use Rattle.lvs_names.specs.declared.Side.TheVariants as side
-use Rattle.lvs_walk.specs.declared.Goal.{Goal}
-use Rattle.lvs_walk.specs.declared.Goal.TheVariants.{Match as AnyMatch, Packet, Key}
-use Rattle.lvs_walk.specs.declared.Found.{Found}
-use Rattle.lvs_walk.specs.declared.Found.TheVariants.{Nothing, At}
+use Rattle.lvs_bindings.specs.Names.{name_for}
+use Rattle.lvs_bindings.specs.Slots.{bindings_of}
+use Rattle.lvs_bindings.specs.declared.Span.{Span}
+use Rattle.lvs_spec.specs.declared.refusal.Side.{Side}
+use Rattle.lvs_spec.specs.declared.refusal.Side.TheVariants as side
+use Rattle.lvs_walk.specs.declared.search.Goal.{Goal}
+use Rattle.lvs_walk.specs.declared.search.Goal.TheVariants.{Match as AnyMatch, Packet, Key}
+use Rattle.lvs_walk.specs.declared.search.Pair.{Pair}
 
 -- the packet's node, and where the walk ended, at the packet's match itself or at the key's; and the edges crossed, of both names
 pub record Hit : Type 0 where
@@ -55,18 +54,10 @@ side_of (Packet start from) = side.Packet
 side_of (Key p) = side.Key
 
 -- two nodes, where a test passes
-unfoldable pub found_if : Bool → ℕ → ℕ → Found
-found_if t p k = cond t (At p k) Nothing
+unfoldable pub found_if : Bool → ℕ → ℕ → Answer Pair
+found_if t p k = cond t (Some (record { packet = p; key = k })) None
 
 -- ---- what a walk asks and promises
-
-pub record Within (model places : List ℕ) (named : ℕ) (packet key slots : List ℕ) : Type 0 where
-  pub nodes : NodesAt model places
-  pub count : named ≡ (model_of model).pattern_count
-  pub packet_short : length packet ≤ max_name_bytes
-  pub key_short : length key ≤ max_name_bytes
-  pub room : Room slots
-  pub only_named : OnlyNamed named (bindings_of packet key slots)
 
 -- a goal that goes on to the key knows where that starts
 abbrev pub Started : Model → Goal → Type 0
@@ -89,15 +80,15 @@ written d [] words = words
 written d (i ∷ p) words = set (written (d + 1) p words) d i
 
 -- the hit that an answer stands for, with these slots and this path
-abbrev pub hit_of : List ℕ → List ℕ → Found → List ℕ → List ℕ → Option Hit
-hit_of packet key Nothing slots p = none
-hit_of packet key (At v k) slots p = some (record { packet = v; node = k; bindings = bindings_of packet key slots; path = p })
+abbrev pub hit_of : List ℕ → List ℕ → Answer Pair → List (Answer Span) → List ℕ → Option Hit
+hit_of packet key None slots p = none
+hit_of packet key (Some z) slots p = some (record { packet = z.packet; node = z.key; bindings = bindings_of packet key slots; path = p })
 
 -- the answer is the first of the trace, and the path has its words from an index on; or nothing, and bindings and path are as they were
-pub record First (packet key : List ℕ) (t : List (Event Hit)) (depth : ℕ) (slots path : List ℕ) (r : Found) (slots-after path-after : List ℕ) : Type 0 where
+pub record First (packet key : List ℕ) (t : List (Event Hit)) (depth : ℕ) (slots : List (Answer Span)) (path : List ℕ) (r : Answer Pair)
+    (slots-after : List (Answer Span)) (path-after : List ℕ) : Type 0 where
   pub crossed : List ℕ
   pub answer : hit_of packet key r slots-after crossed ≡ first_found t
   pub path_is : path-after ≡ written depth crossed path
-  pub kept : r ≡ Nothing → bindings_of packet key slots-after ≡ bindings_of packet key slots
-  pub path_kept : r ≡ Nothing → path-after ≡ path
-  pub room : Room slots-after
+  pub kept : r ≡ None → bindings_of packet key slots-after ≡ bindings_of packet key slots
+  pub path_kept : r ≡ None → path-after ≡ path

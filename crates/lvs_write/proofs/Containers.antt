@@ -1,8 +1,9 @@
 -- Each container of a description, as the code goes through it: the parts of its format, one behind the other. Assumes nothing.
 use mathlib.Core.Path.{◌≡◌, refl, sym, ap, subst, ◌∙◌}
-use mathlib.Core.Bool.{false}
-use mathlib.Core.Option.{Option, none, some}
+use mathlib.Core.Option.{none, some}
+use mathlib.Core.Option as maybe_value
 use mathlib.Core.List.{List, []}
+use Rattle.std.specs.Prelude.{Option, None, Some}
 use Prim.Native.Nat.{ℕ, zero, suc}
 use Rattle.tlv.specs.Lists.{bind}
 use lib.Dec.{lit<}
@@ -16,12 +17,12 @@ use Rattle.lvs_spec.specs.Model.{Argument, Term}
 use Rattle.lvs_description.specs.Format.{Lists, Taken, take_number, Format, integer, text, component, ◌then◌, many, maybe_from, maybe, within}
 use Rattle.lvs_description.specs.Description.{argument_from, argument, call, term_from, term, option, constraint, value_edge, pattern_edge, node, symbol}
 use Rattle.lvs_description.specs.Description.{model}
-use Rattle.lvs_write.specs.declared.Container.{Container}
-use Rattle.lvs_write.specs.declared.Part.{Part}
+use Rattle.lvs_write.specs.declared.parts.Container.{Container}
+use Rattle.lvs_write.specs.declared.parts.Part.{Part}
 use Rattle.lvs_write.specs.Spelled.{Bytes, spelled, text_from, after, wrapped, type_of, counted, inside_from, nested_from, part_from}
-use Rattle.lvs_write.specs.declared.Cursor.{Cursor}
-use Rattle.lvs_write.specs.Steps.{version_from, Took, TookNumber, Writes, WritesNumbers}
-use Rattle.lvs_write.proofs.Moves.{stopped_wrote, nothing_wrote, wrote_as, chosen_wrote}
+use Rattle.lvs_write.specs.declared.cursor.Cursor.{Cursor}
+use Rattle.lvs_write.specs.Steps.{version_from, left, Took, Missing, Writes}
+use Rattle.lvs_write.proofs.Moves.{none_wrote, nothing_wrote, wrote_as, chosen_wrote}
 use Rattle.lvs_write.proofs.Fronts.{Same, after_same, after_assoc, text_any, then_spelled, under_spelled, within_spelled, behind_spelled, many_of}
 
 infixr 40 ◌⨾◌
@@ -189,7 +190,7 @@ pub parent_chosen : (l : Lists) → spelled (maybe (integer type.Parent)) l ≡ 
 unfolding parent_bytes encode
 parent_chosen = choices F (maybe_from (integer type.Parent).from) parent_bytes (λ l. refl) each_case
   where
-    F : Format (Option ℕ)
+    F : Format (maybe_value.Option ℕ)
     F = maybe (integer type.Parent)
 
     each_case : (n : ℕ) (l : Lists) → shown F (maybe_from (integer type.Parent).from n l) ≡ parent_bytes n l
@@ -219,66 +220,83 @@ term_chosen = choices term term_from term_bytes (λ l. refl) each_case
 
 -- ---- which number it was
 
-module _ {ns ts : List ℕ} {s m r : Cursor} {v : ℕ} {before now : List ℕ} {f : Lists → Bytes} (h : ℕ → Lists → Bytes)
-    (f-is : (l : Lists) → f l ≡ bind (take_number l) (λ x. h x.0 x.1)) (T : Took take_number ns ts s v m) where
-  at_number : (k : ℕ) → v ≡ k → Writes (h k) ns ts before now m r → Writes f ns ts before now s r
-  at_number k e W = chosen_wrote T h f-is (subst (λ (x : ℕ). Writes (h x) ns ts before now m r) (sym e) W)
+module _ {f : Lists → Bytes} (h : ℕ → Lists → Bytes) (f-is : (l : Lists) → f l ≡ bind (take_number l) (λ x. h x.0 x.1)) {s : Cursor}
+    {before now : List ℕ} where
+  -- there is none
+  no_number : Missing take_number s → Writes f before now s None
+  no_number e = none_wrote (record { is = f-is (left s) ∙ rw e.is })
 
-  at_none : ((l : Lists) → h v l ≡ none) → r.ok ≡ false → Writes f ns ts before now s r
-  at_none none_is e = chosen_wrote T h f-is (stopped_wrote e (λ k l p. none_is l))
+  module _ {m : Cursor} {v : ℕ} (T : Took take_number s v m) where
+    at_number : {r : Option Cursor} (k : ℕ) → v ≡ k → Writes (h k) before now m r → Writes f before now s r
+    at_number {r} k e W = chosen_wrote T h f-is (subst (λ (x : ℕ). Writes (h x) before now m r) (sym e) W)
 
-module _ {ns : List ℕ} {s m : Cursor} {v : ℕ} {before : List ℕ} (T : TookNumber ns s v m) where
-  pub parent_absent : v ≡ 0 → WritesNumbers (spelled (maybe (integer type.Parent))) ns before before s m
+    at_none : ((l : Lists) → h v l ≡ none) → Writes f before now s None
+    at_none none_is = chosen_wrote T h f-is (none_wrote (record { is = none_is (left m) }))
+
+module _ {s : Cursor} {before now : List ℕ} where
+  pub parent_missing : Missing take_number s → Writes (spelled (maybe (integer type.Parent))) before now s None
+  parent_missing = no_number parent_bytes parent_chosen
+
+  pub argument_missing : Missing take_number s → Writes (spelled argument) before now s None
+  argument_missing = no_number argument_bytes argument_chosen
+
+  pub term_missing : Missing take_number s → Writes (spelled term) before now s None
+  term_missing = no_number term_bytes term_chosen
+
+module _ {s m : Cursor} {v : ℕ} (T : Took take_number s v m) where
+  pub parent_absent : {b : List ℕ} → v ≡ 0 → Writes (spelled (maybe (integer type.Parent))) b b s (Some m)
   unfolding parent_bytes
-  parent_absent e ts = at_number parent_bytes parent_chosen (T ts) 0 e (nothing_wrote ns ts before m)
+  parent_absent {b} e = at_number parent_bytes parent_chosen T 0 e (nothing_wrote b m)
 
-  pub parent_there : {now : List ℕ} {r : Cursor} → v ≡ 1 → WritesNumbers (spelled (integer type.Parent)) ns before now m r
-      → WritesNumbers (spelled (maybe (integer type.Parent))) ns before now s r
+  pub parent_there : {before now : List ℕ} {r : Option Cursor} → v ≡ 1 → Writes (spelled (integer type.Parent)) before now m r
+      → Writes (spelled (maybe (integer type.Parent))) before now s r
   unfolding parent_bytes
-  parent_there e W ts = at_number parent_bytes parent_chosen (T ts) 1 e (W ts)
+  parent_there e W = at_number parent_bytes parent_chosen T 1 e W
 
-  pub parent_other : {r : Cursor} → (v ≡ 0 → ⊥) → (v ≡ 1 → ⊥) → r.ok ≡ false → WritesNumbers (spelled (maybe (integer type.Parent))) ns before before s r
+  pub parent_other : {before now : List ℕ} → (v ≡ 0 → ⊥) → (v ≡ 1 → ⊥) → Writes (spelled (maybe (integer type.Parent))) before now s None
   unfolding parent_bytes
-  parent_other x y e ts = at_none parent_bytes parent_chosen (T ts) (go v x y) e
+  parent_other x y = at_none parent_bytes parent_chosen T (go v x y)
     where
       go : (k : ℕ) → (k ≡ 0 → ⊥) → (k ≡ 1 → ⊥) → (l : Lists) → parent_bytes k l ≡ none
       go zero p q l = absurd (p refl)
       go (suc zero) p q l = absurd (q refl)
       go (suc (suc n)) p q l = refl
 
-module _ {ns ts : List ℕ} {s m r : Cursor} {v : ℕ} {before : List ℕ} (T : TookNumber ns s v m) where
-  pub argument_value : {now : List ℕ} → v ≡ 0 → Writes (spelled (component type.Value)) ns ts before now m r → Writes (spelled argument) ns ts before now s r
+  pub argument_value : {before now : List ℕ} {r : Option Cursor} → v ≡ 0 → Writes (spelled (component type.Value)) before now m r
+      → Writes (spelled argument) before now s r
   unfolding argument_bytes
-  argument_value e W = at_number argument_bytes argument_chosen (T ts) 0 e W
+  argument_value e W = at_number argument_bytes argument_chosen T 0 e W
 
-  pub argument_tag : {now : List ℕ} → v ≡ 1 → WritesNumbers (spelled (integer type.Tag)) ns before now m r → Writes (spelled argument) ns ts before now s r
+  pub argument_tag : {before now : List ℕ} {r : Option Cursor} → v ≡ 1 → Writes (spelled (integer type.Tag)) before now m r
+      → Writes (spelled argument) before now s r
   unfolding argument_bytes
-  argument_tag e W = at_number argument_bytes argument_chosen (T ts) 1 e (W ts)
+  argument_tag e W = at_number argument_bytes argument_chosen T 1 e W
 
-  pub argument_other : (v ≡ 0 → ⊥) → (v ≡ 1 → ⊥) → r.ok ≡ false → Writes (spelled argument) ns ts before before s r
+  pub argument_other : {before now : List ℕ} → (v ≡ 0 → ⊥) → (v ≡ 1 → ⊥) → Writes (spelled argument) before now s None
   unfolding argument_bytes
-  argument_other x y e = at_none argument_bytes argument_chosen (T ts) (go v x y) e
+  argument_other x y = at_none argument_bytes argument_chosen T (go v x y)
     where
       go : (k : ℕ) → (k ≡ 0 → ⊥) → (k ≡ 1 → ⊥) → (l : Lists) → argument_bytes k l ≡ none
       go zero p q l = absurd (p refl)
       go (suc zero) p q l = absurd (q refl)
       go (suc (suc n)) p q l = refl
 
-  pub term_value : {now : List ℕ} → v ≡ 0 → Writes (spelled (component type.Value)) ns ts before now m r → Writes (spelled term) ns ts before now s r
+  pub term_value : {before now : List ℕ} {r : Option Cursor} → v ≡ 0 → Writes (spelled (component type.Value)) before now m r
+      → Writes (spelled term) before now s r
   unfolding term_bytes
-  term_value e W = at_number term_bytes term_chosen (T ts) 0 e W
+  term_value e W = at_number term_bytes term_chosen T 0 e W
 
-  pub term_tag : {now : List ℕ} → v ≡ 1 → WritesNumbers (spelled (integer type.Tag)) ns before now m r → Writes (spelled term) ns ts before now s r
+  pub term_tag : {before now : List ℕ} {r : Option Cursor} → v ≡ 1 → Writes (spelled (integer type.Tag)) before now m r → Writes (spelled term) before now s r
   unfolding term_bytes
-  term_tag e W = at_number term_bytes term_chosen (T ts) 1 e (W ts)
+  term_tag e W = at_number term_bytes term_chosen T 1 e W
 
-  pub term_call : {now : List ℕ} → v ≡ 2 → Writes (nested_from Container.Call) ns ts before now m r → Writes (spelled term) ns ts before now s r
+  pub term_call : {before now : List ℕ} {r : Option Cursor} → v ≡ 2 → Writes (nested_from Container.Call) before now m r → Writes (spelled term) before now s r
   unfolding term_bytes
-  term_call e W = at_number term_bytes term_chosen (T ts) 2 e W
+  term_call e W = at_number term_bytes term_chosen T 2 e W
 
-  pub term_other : (v ≡ 0 → ⊥) → (v ≡ 1 → ⊥) → (v ≡ 2 → ⊥) → r.ok ≡ false → Writes (spelled term) ns ts before before s r
+  pub term_other : {before now : List ℕ} → (v ≡ 0 → ⊥) → (v ≡ 1 → ⊥) → (v ≡ 2 → ⊥) → Writes (spelled term) before now s None
   unfolding term_bytes
-  term_other x y z e = at_none term_bytes term_chosen (T ts) (go v x y z) e
+  term_other x y z = at_none term_bytes term_chosen T (go v x y z)
     where
       go : (k : ℕ) → (k ≡ 0 → ⊥) → (k ≡ 1 → ⊥) → (k ≡ 2 → ⊥) → (l : Lists) → term_bytes k l ≡ none
       go zero p q w l = absurd (p refl)
@@ -317,15 +335,13 @@ unfolding inside_from
 argument_inside l = refl
 
 -- what holds of a container that is known holds of it by its name
-pub by_container : {c k : Container} {f : Lists → Bytes} {ns ts before now : List ℕ} {s r : Cursor} → c ≡ k → Same f (inside_from k)
-    → Writes f ns ts before now s r → Writes (inside_from c) ns ts before now s r
-by_container {c} {k} {f} {ns} {ts} {before} {now} {s} {r} e p W =
-    subst (λ (x : Container). Writes (inside_from x) ns ts before now s r) (sym e) (wrote_as p W)
+pub by_container : {c k : Container} {f : Lists → Bytes} {before now : List ℕ} {s : Cursor} {r : Option Cursor} → c ≡ k → Same f (inside_from k)
+    → Writes f before now s r → Writes (inside_from c) before now s r
+by_container {c} {k} {f} {before} {now} {s} {r} e p W = subst (λ (x : Container). Writes (inside_from x) before now s r) (sym e) (wrote_as p W)
 
-pub by_part : {c k : Part} {f : Lists → Bytes} {ns ts before now : List ℕ} {s r : Cursor} → c ≡ k → Same f (part_from k)
-    → Writes f ns ts before now s r → Writes (part_from c) ns ts before now s r
-by_part {c} {k} {f} {ns} {ts} {before} {now} {s} {r} e p W =
-    subst (λ (x : Part). Writes (part_from x) ns ts before now s r) (sym e) (wrote_as p W)
+pub by_part : {c k : Part} {f : Lists → Bytes} {before now : List ℕ} {s : Cursor} {r : Option Cursor} → c ≡ k → Same f (part_from k)
+    → Writes f before now s r → Writes (part_from c) before now s r
+by_part {c} {k} {f} {before} {now} {s} {r} e p W = subst (λ (x : Part). Writes (part_from x) before now s r) (sym e) (wrote_as p W)
 
 pub rule_name_written : Same (text_from type.Identifier) (part_from Part.RuleName)
 unfolding part_from

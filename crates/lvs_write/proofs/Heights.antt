@@ -1,7 +1,7 @@
 -- How deep a container is, for the calls of the cycle to end: each call is of something less high. Assumes nothing.
 use Prim.Native.Nat.{ℕ, ◌+◌, ◌*◌}
-use Rattle.lvs_write.specs.declared.Container.{Container}
-use Rattle.lvs_write.specs.declared.Part.{Part}
+use Rattle.lvs_write.specs.declared.parts.Container.{Container}
+use Rattle.lvs_write.specs.declared.parts.Part.{Part}
 
 abbrev pub height : Container → ℕ
 height Container.Node = 5

@@ -1,16 +1,17 @@
 -- A run of parts of one sort, written one after the other. Assumes nothing.
 use mathlib.Core.Path.{◌≡◌, refl, sym, ap, ◌∙◌}
-use mathlib.Core.Bool.{false}
 use mathlib.Core.List.{List, []}
 use mathlib.Core.Option.{none, some}
 use Prim.Native.Nat.{ℕ, zero, suc, ◌+◌, ◌-◌, ◌≤◌, ◌<◌}
+use native.Mathlib.Numerals.{add-one}
 use native.Mathlib.Omega.{arith}
 use lib.ListN.{length}
+use Rattle.std.specs.Prelude.{Option, None, Some}
 use Rattle.lvs_description.specs.Format.{Lists, take_number}
-use Rattle.lvs_write.specs.declared.Cursor.{Cursor}
+use Rattle.lvs_write.specs.declared.cursor.Cursor.{Cursor}
 use Rattle.lvs_write.specs.Spelled.{Bytes, after, run, counted}
-use Rattle.lvs_write.specs.Steps.{state_of, Took, Writes}
-use Rattle.lvs_write.proofs.Moves.{apart, state_not, moved_some, stopped_wrote, nothing_wrote, wrote_as, then_wrote, chosen_wrote}
+use Rattle.lvs_write.specs.Steps.{left, Took, Missing, Writes}
+use Rattle.lvs_write.proofs.Moves.{nothing_wrote, none_wrote, wrote_as, then_wrote, chosen_wrote}
 use Rattle.lvs_write.proofs.Fronts.{after_same, after_assoc, after_nothing}
 
 module _ (f : Lists → Bytes) where
@@ -40,45 +41,37 @@ module _ (f : Lists → Bytes) where
           after_none : {o : Bytes} → o ≡ none → after o f ≡ none
           after_none p = rw p
 
-  -- after `count` less `left` turns
-  pub record Running (ns ts before : List ℕ) (s : Cursor) (count : ℕ) (now : List ℕ) (c : Cursor) (left : ℕ) : Type 0 where
-    pub wrote : Writes (run f (count - left)) ns ts before now s c
-    pub some_left : left ≤ count
+  -- after so many turns
+  pub record Running (before : List ℕ) (s : Cursor) (turns : ℕ) (now : List ℕ) (c : Cursor) : Type 0 where
+    pub wrote : Writes (run f turns) before now s (Some c)
     pub long : length now ≡ length before
 
-  pub running_first : (ns ts b : List ℕ) (s : Cursor) (count : ℕ) → Running ns ts b s count b s count
+  pub running_first : (b : List ℕ) (s : Cursor) → Running b s 0 b s
   unfolding run
-  running_first ns ts b s count =
-      let none_yet : count - count ≡ 0 = omega arith in
-      record { wrote = wrote_as (λ l. ap (λ (n : ℕ). run f n l) (sym none_yet)) (nothing_wrote ns ts b s); some_left = omega arith; long = refl }
+  running_first b s = record { wrote = nothing_wrote b s; long = refl }
 
-  module _ {ns ts before : List ℕ} {s : Cursor} {count : ℕ} {now : List ℕ} {c : Cursor} {left : ℕ} (R : Running ns ts before s count now c left) where
-    pub running_next : {after-it : List ℕ} {r : Cursor} → 0 < left → Writes f ns ts now after-it c r → length after-it ≡ length now
-        → Running ns ts before s count after-it r (left - 1)
-    running_next h W e =
-        let one : suc (count - left) ≡ count - (left - 1) = omega (arith, R.some_left) in
-        record {
-          wrote = wrote_as (λ l. run_last (count - left) l ∙ ap (λ (n : ℕ). run f n l) one) (then_wrote R.wrote W R.long);
-          some_left = omega (arith, R.some_left);
-          long = e ∙ R.long;
-        }
+  module _ {before : List ℕ} {s : Cursor} {turns : ℕ} {now : List ℕ} {c : Cursor} (R : Running before s turns now c) where
+    turn_wrote : {after-it : List ℕ} {r : Option Cursor} → Writes f now after-it c r → Writes (run f (turns + 1)) before after-it s r
+    turn_wrote W = wrote_as (λ l. run_last turns l ∙ ap (λ (n : ℕ). run f n l) (sym (add-one turns))) (then_wrote R.wrote W R.long)
 
-    pub running_last : left ≤ 0 → Writes (run f count) ns ts before now s c
-    running_last h =
-        let all : count - left ≡ count = omega (arith, R.some_left) in
-        wrote_as (λ l. ap (λ (n : ℕ). run f n l) all) R.wrote
+    pub running_next : {after-it : List ℕ} {r : Cursor} → Writes f now after-it c (Some r) → length after-it ≡ length now
+        → Running before s (turns + 1) after-it r
+    running_next W e = record { wrote = turn_wrote W; long = e ∙ R.long }
 
-    -- it went no further: neither does the whole run
-    pub running_stopped : c.ok ≡ false → Writes (run f count) ns ts before now s c
-    running_stopped e = stopped_wrote e (λ k l p. run_more (count - left) count l (stuck k l p (run f (count - left) l) refl) (omega (arith, R.some_left)))
-      where
-        stuck : (k : ℕ) (l : Lists) → state_of ns ts s ≡ some (k, l) → (o : Bytes) → run f (count - left) l ≡ o → run f (count - left) l ≡ none
-        stuck k l p none q = q
-        stuck k l p (some x) q =
-            absurd (apart (sym (state_not ns ts c e) ∙ R.wrote.moved ∙ moved_some (run f (count - left)) p q))
+    -- there is nothing for this turn, and so for the whole run
+    pub running_stopped : (count : ℕ) {after-it : List ℕ} → turns < count → Writes f now after-it c None → Writes (run f count) before after-it s None
+    running_stopped count h W = none_wrote (record { is = run_more (turns + 1) count (left s) (turn_wrote W).by_end.is (omega arith) })
+
+  pub running_last : {before : List ℕ} {s : Cursor} {turns : ℕ} {now : List ℕ} {c : Cursor} (count : ℕ) → Running before s turns now c
+      → turns ≡ count → Writes (run f count) before now s (Some c)
+  running_last {before} {s} {turns} {now} {c} count R e = wrote_as (λ l. ap (λ (n : ℕ). run f n l) e) R.wrote
 
   -- the count, and so many
-  pub counted_wrote : {ns ts before now : List ℕ} {s m r : Cursor} {n : ℕ} → Took take_number ns ts s n m → Writes (run f n) ns ts before now m r
-      → Writes (counted f) ns ts before now s r
+  pub counted_wrote : {before now : List ℕ} {s m : Cursor} {r : Option Cursor} {n : ℕ} → Took take_number s n m → Writes (run f n) before now m r
+      → Writes (counted f) before now s r
   unfolding counted
   counted_wrote T W = chosen_wrote T (run f) (λ l. refl) W
+
+  pub count_missed : {before now : List ℕ} {s : Cursor} → Missing take_number s → Writes (counted f) before now s None
+  unfolding counted
+  count_missed e = none_wrote (record { is = rw e.is })

@@ -2,16 +2,17 @@
 -- element, written into a part that was lent. Assumes nothing.
 use mathlib.Core.Path.{◌≡◌, refl, sym, ap, subst, ◌∙◌}
 use mathlib.Core.Bool.{Bool, true, false, cond}
-use mathlib.Core.List.{List, ◌∷◌, ◌++◌}
-use mathlib.Core.Option.{Option, none, some}
-use Prim.Native.Nat.{ℕ, ◌+◌, ◌-◌, ◌^◌, ◌≤◌, ◌<◌, min}
-use native.Mathlib.Numerals.{add-one}
+use mathlib.Core.List.{List, [], ◌∷◌, ◌++◌}
+use mathlib.Core.Option.{none, some}
+use Prim.Native.Nat.{ℕ, ◌+◌, ◌-◌, ◌^◌, ◌≤◌, ◌<◌}
 use native.Mathlib.Omega.{arith}
-use borrow.Author.Tests.{lt-ltb, le-ltb, le-leb, lt-leb, leb-true, leb-false, ltb-true}
+use borrow.Author.Tests.{le-leb, lt-leb, leb-true, leb-false, ltb-true}
 use borrow.Rule.Slice.PartMut.{put_mid}
 use lib.Dec.{leb, ltb, lit≤}
-use lib.ListN.{length, take, drop, get_or, length-append, length-drop, drop_of_length-le}
-use lib.Seq.{drop-cons, drop-drop, length-take-le}
+use lib.ListN.{length, take, drop, length-append, length-drop}
+use lib.Seq.{length-take-le}
+use Rattle.std.specs.Borrow.{Bor}
+use Rattle.tlv.specs.Element.{Element}
 use Rattle.tlv.specs.Lists.{bind}
 use Rattle.tlv.specs.Bytes.{big_endian_bytes}
 use Rattle.tlv.specs.Number.{number_bytes, integer_size}
@@ -19,55 +20,20 @@ use Rattle.tlv.proofs.Bytes.{length-spelled}
 use Rattle.tlv_writer.proofs.Numbers.{number_most}
 use Rattle.tlv_writer.specs.Stored.{Stored, Digits}
 use Rattle.tlv_writer.proofs.Stores.{stored_both, stored_length, stored_inside}
-use Rattle.lvs_description.specs.Format.{Lists, Taken, bytes_of, take_text, take_component, integer_width, integer_bytes}
+use Rattle.lvs_description.specs.Format.{Lists, Taken, head_of, take_number, bytes_of, take_text, take_component, integer_width, integer_bytes}
 use Rattle.lvs_description.specs.Description.{value_edge}
 use Rattle.lvs_spec.specs.Types as type
-use Rattle.lvs_write.specs.declared.Cursor.{Cursor}
-use Rattle.lvs_write.specs.Steps.{capped, el, edge_bytes, element_size, header_bytes, state_of, taken_by, Took, TookNumber, TookText, Puts}
+use Rattle.lvs_write.specs.declared.cursor.Cursor.{Cursor}
+use Rattle.lvs_write.specs.Steps.{el, edge_bytes, element_size, header_bytes, Took, Missing, Puts}
 use Rattle.lvs_write.proofs.Sizes.{header_then, header_length, element_length, element_room}
-use Rattle.lvs_write.proofs.Moves.{apart, state_ok, state_not, took_ok, took_none}
 
 -- ---- sizes
-
-pub cap_is : (n : ℕ) → n < 32769 → n ≡ capped n
-unfolding capped
-cap_is n h = omega arith
-
-pub cap_full : (n : ℕ) → 32769 ≤ n → 32769 ≡ capped n
-unfolding capped
-cap_full n h = omega arith
 
 pub size_of : (t n : ℕ) {a b : ℕ} → a ≡ length (number_bytes t) → b ≡ length (number_bytes n) → a + (b + n) ≡ element_size t n
 unfolding element_size
 size_of t n p q = omega arith
 
-pub room_before : (len at n : ℕ) → len < at → false ≡ leb (at + n) len
-room_before len at n h = sym (lt-leb (at + n) len (omega arith))
-
-pub room_behind : (len at n : ℕ) → at ≤ len → leb n (len - at) ≡ leb (at + n) len
-room_behind len at n h = go (leb n (len - at)) refl
-  where
-    go : (t : Bool) → leb n (len - at) ≡ t → leb n (len - at) ≡ leb (at + n) len
-    go true e = let k : n ≤ len - at = leb-true _ _ e in e ∙ sym (le-leb (at + n) len (omega arith))
-    go false e = let k : len - at < n = leb-false _ _ e in e ∙ sym (lt-leb (at + n) len (omega arith))
-
 module _ (n : ℕ) where
-  pub width_1 : n < 256 → 1 ≡ integer_width n
-  unfolding integer_width
-  width_1 h = rw (lt-ltb _ _ h)
-
-  pub width_2 : 256 ≤ n → n < 65536 → 2 ≡ integer_width n
-  unfolding integer_width
-  width_2 g h = rw (le-ltb _ _ g, lt-ltb _ _ h)
-
-  pub width_4 : 65536 ≤ n → n < 4294967296 → 4 ≡ integer_width n
-  unfolding integer_width
-  width_4 g h = rw (le-ltb n 256 (omega arith), le-ltb _ _ g, lt-ltb _ _ h)
-
-  pub width_8 : 4294967296 ≤ n → 8 ≡ integer_width n
-  unfolding integer_width
-  width_8 g = rw (le-ltb n 256 (omega arith), le-ltb n 65536 (omega arith), le-ltb _ _ g)
-
   -- what holds of each of the four widths holds of the shortest
   by_width : (P : ℕ → Type 0) → (n < 256 → P 1) → (n < 65536 → P 2) → (n < 4294967296 → P 4) → P 8 → P (integer_width n)
   unfolding integer_width
@@ -232,115 +198,64 @@ module _ (to c : ℕ) (src : List ℕ) where
 
 -- ---- numbers and texts, taken
 
-module _ (ns : List ℕ) (s : Cursor) where
-  pub number_not : s.ok ≡ false → TookNumber ns s 0 s
-  unfolding taken_by
-  number_not e ts = record { is = rw (state_not ns ts s e) }
+pub number_there : (s : Cursor) {n : ℕ} {rest : Bor (List ℕ)} → s.numbers.now ≡ n ∷ rest.now
+    → Took take_number s n (record { numbers = rest; texts = s.texts; at = s.at })
+number_there s e = record { is = rw e; place = refl }
 
-  pub number_out : {r : Cursor} → s.ok ≡ true → r.ok ≡ false → length ns ≤ s.number → TookNumber ns s 0 r
-  unfolding taken_by
-  number_out {r} e f h ts = record { is = rw (state_ok ns ts s e, state_not ns ts r f, drop_of_length-le ns h) }
-
-  pub number_taken : s.ok ≡ true → s.number < length ns
-      → TookNumber ns s (get_or ns s.number 0) (record { ok = true; number = s.number + 1; text = s.text; at = s.at })
-  unfolding taken_by
-  number_taken e h ts =
-      let next : drop s.number ns ≡ get_or ns s.number 0 ∷ drop (s.number + 1) ns =
-      drop-cons ns s.number 0 h ∙ ap (λ (k : ℕ). get_or ns s.number 0 ∷ drop k ns) (sym (add-one s.number)) in
-      record { is = rw (state_ok ns ts s e, state_ok ns ts (record { ok = true; number = s.number + 1; text = s.text; at = s.at }) refl, next) }
-
--- what a number in front decides
-module _ {A B : Type 0} {first : Lists → Taken A} (h : A → Lists → Taken B) {ns ts : List ℕ} {s m : Cursor} {a : A} (T : Took first ns ts s a m) where
-  abbrev chosen : Lists → Taken B
-  chosen l = bind (first l) (λ x. h x.0 x.1)
-
-  none_chosen : (o : Option (ℕ × Lists)) → taken_by first o ≡ none → taken_by chosen o ≡ none
-  unfolding taken_by
-  none_chosen none e = refl
-  none_chosen (some x) e = go (first x.1) refl
-    where
-      go : (y : Taken A) → first x.1 ≡ y → taken_by chosen (some x) ≡ none
-      go none p = rw p
-      go (some y) p = let there : ◌≡◌ {A = Option (A × (ℕ × Lists))} none (some (y.0, (x.0, y.1))) = sym e ∙ rw p in absurd (apart there)
-
-  pub took_chosen : {b : B} {r : Cursor} → Took (h a) ns ts m b r → Took chosen ns ts s b r
-  unfolding taken_by
-  took_chosen U = record { is = U.is ∙ go m.ok refl }
-    where
-      go : (t : Bool) → m.ok ≡ t → taken_by (h a) (state_of ns ts m) ≡ taken_by chosen (state_of ns ts s)
-      go true e = let O = took_ok T e in rw (O.before_is, O.behind_is, O.taken)
-      go false e = ap (taken_by (h a)) (state_not ns ts m e) ∙ sym (none_chosen (state_of ns ts s) (took_none T e))
-
-pub took_map : {A B : Type 0} {f : Lists → Taken A} (g : A → B) {ns ts : List ℕ} {s r : Cursor} {a : A} → Took f ns ts s a r
-    → Took (λ l. bind (f l) (λ x. some (g x.0, x.1))) ns ts s (g a) r
-unfolding taken_by
-took_map {A} {B} {f} g {ns} {ts} {s} {r} {a} T = record { is = left (state_of ns ts r) ∙ ap over T.is ∙ right (state_of ns ts s) }
+pub number_missing : (s : Cursor) → length s.numbers.now ≡ 0 → Missing take_number s
+number_missing s e = record { is = go s.numbers.now e }
   where
-    over : Option (A × (ℕ × Lists)) → Option (B × (ℕ × Lists))
-    over o = bind o (λ x. some (g x.0, x.1))
+    go : (ns : List ℕ) → length ns ≡ 0 → head_of ns s.texts.now ≡ none
+    go [] e = refl
+    go (n ∷ ns) e = absurd (omega arith)
 
-    left : (o : Option (ℕ × Lists)) → bind o (λ x. some (g a, x)) ≡ over (bind o (λ x. some (a, x)))
-    left none = refl
-    left (some x) = refl
+module _ {s m : Cursor} {n : ℕ} (T : Took take_number s n m) where
+  pub text_there : (text rest : Bor (List ℕ)) → n ≤ length m.texts.now → text.now ≡ take n m.texts.now → rest.now ≡ drop n m.texts.now
+      → Took take_text s text.now (record { numbers = m.numbers; texts = rest; at = m.at })
+  unfolding take_text bytes_of
+  text_there text rest h p q = record { is = rw (T.is, le-leb n (length m.texts.now) h, p, q); place = T.place }
 
-    right : (o : Option (ℕ × Lists)) → over (taken_by f o) ≡ taken_by (λ l. bind (f l) (λ x. some (g x.0, x.1))) o
-    right none = refl
-    right (some x) = go (f x.1) refl
-      where
-        go : (y : Taken A) → f x.1 ≡ y → over (taken_by f (some x)) ≡ taken_by (λ l. bind (f l) (λ x. some (g x.0, x.1))) (some x)
-        go none p = rw p
-        go (some y) p = rw p
+  pub text_short : length m.texts.now < n → Missing take_text s
+  unfolding take_text bytes_of
+  text_short h = record { is = rw (T.is, lt-leb n (length m.texts.now) h) }
 
--- one and then another
-pub both_taken : {A B : Type 0} {f : Lists → Taken A} {g : Lists → Taken B} {ns ts : List ℕ} {s m r : Cursor} {a : A} {b : B} → Took f ns ts s a m
-    → Took g ns ts m b r → Took {A = A × B} (λ l. bind (f l) (λ x. bind (g x.1) (λ y. some ((x.0, y.0), y.1)))) ns ts s (a, b) r
-both_taken {A} {B} {f} {g} {ns} {ts} {s} {m} {r} {a} T U = took_chosen (λ k l. bind (g l) (λ y. some ((k, y.0), y.1))) T (took_map (λ y. (a, y)) U)
+pub text_missing : {s : Cursor} → Missing take_number s → Missing take_text s
+unfolding take_text
+text_missing e = record { is = rw e.is }
 
--- ---- a text's bytes
+-- ---- what a leaf takes: one and then another
 
-drop-least : (ts : List ℕ) (k : ℕ) {start : ℕ} → start ≡ min k (length ts) → drop k ts ≡ drop start ts
-drop-least ts k {start} e = go (leb k (length ts)) refl
-  where
-    go : (t : Bool) → leb k (length ts) ≡ t → drop k ts ≡ drop start ts
-    go true p = let h : k ≤ length ts = leb-true _ _ p in let same : k ≡ start = omega arith in ap (λ (j : ℕ). drop j ts) same
-    go false p = let h : length ts < k = leb-false _ _ p in drop_of_length-le ts {i = k} (omega arith) ∙ sym (drop_of_length-le ts {i = start} (omega arith))
+module _ {A B : Type 0} (f : Lists → Taken A) (g : Lists → Taken B) where
+  abbrev pub both : Lists → Taken (A × B)
+  both l = bind (f l) (λ x. bind (g x.1) (λ y. some ((x.0, y.0), y.1)))
 
-module _ (ns ts : List ℕ) (s : Cursor) {next : Cursor} {n start : ℕ} (T : TookNumber ns s n next) (least : start ≡ min next.text (length ts)) where
-  pub text_long : {r : Cursor} → length ts - start < n → r.ok ≡ false → TookText ns ts s start start r
-  unfolding taken_by take_text bytes_of
-  text_long {r} h e = record { taken = took_chosen bytes_of (T ts) (record { is = go next.ok refl }); order = omega arith; within = omega arith }
-    where
-      go : (t : Bool) → next.ok ≡ t → bind (state_of ns ts r) (λ x. some (take (start - start) (drop start ts), x)) ≡ taken_by (bytes_of n)
-          (state_of ns ts next)
-      go true p = rw (state_not ns ts r e, state_ok ns ts next p, drop-least ts next.text least, lt-leb n (length (drop start ts)) (simp length-drop h))
-      go false p = rw (state_not ns ts r e, state_not ns ts next p)
+  pub both_taken : {s m r : Cursor} {a : A} {b : B} → Took f s a m → Took g m b r → Took both s (a, b) r
+  both_taken T U = record { is = rw (T.is, U.is); place = U.place ∙ T.place }
 
-  pub text_taken : n ≤ length ts - start
-      → TookText ns ts s start (start + n) (record { ok = next.ok; number = next.number; text = start + n; at = next.at })
-  unfolding taken_by take_text bytes_of
-  text_taken h =
-      record { taken = took_chosen bytes_of (T ts) (record { is = go next.ok refl }); order = omega arith; within = omega arith }
-    where
-      r : Cursor
-      r = record { ok = next.ok; number = next.number; text = start + n; at = next.at }
+  pub first_missing : {s : Cursor} → Missing f s → Missing both s
+  first_missing e = record { is = rw e.is }
 
-      size : start + n - start ≡ n
-      size = omega arith
-
-      go : (t : Bool) → next.ok ≡ t
-          → bind (state_of ns ts r) (λ x. some (take (start + n - start) (drop start ts), x)) ≡ taken_by (bytes_of n) (state_of ns ts next)
-      go true p =
-          let room = le-leb n (length (drop start ts)) (simp length-drop h) in
-          rw (state_ok ns ts r p, state_ok ns ts next p, drop-least ts next.text least, room, size, drop-drop n start ts)
-      go false p = rw (state_not ns ts r p, state_not ns ts next p)
+  pub second_missing : {s m : Cursor} {a : A} → Took f s a m → Missing g m → Missing both s
+  second_missing T e = record { is = rw (T.is, e.is) }
 
 -- a component's type, and its bytes
-pub component_taken : (ns ts : List ℕ) {s m r : Cursor} {v start end : ℕ} → TookNumber ns s v m → TookText ns ts m start end r
-    → Took take_component ns ts s (record { type = v; inside = take (end - start) (drop start ts) }) r
-component_taken ns ts {s} {m} {r} {v} T U = took_chosen (λ k l. bind (take_text l) (λ y. some (record { type = k; inside = y.0 }, y.1))) (T ts)
-    (took_map (λ b. record { type = v; inside = b }) U.taken)
+pub component_taken : {s m r : Cursor} {v : ℕ} {bs : List ℕ} → Took take_number s v m → Took take_text m bs r
+    → Took take_component s (record { type = v; inside = bs }) r
+component_taken T U = record { is = rw (T.is, U.is); place = U.place ∙ T.place }
+
+pub component_untyped : {s : Cursor} → Missing take_number s → Missing take_component s
+component_untyped e = record { is = rw e.is }
+
+pub component_short : {s m : Cursor} {v : ℕ} → Took take_number s v m → Missing take_text m → Missing take_component s
+component_short T e = record { is = rw (T.is, e.is) }
 
 -- a ValueEdge's destination, and its component
-pub value_edge_taken : (ns ts : List ℕ) {s m k r : Cursor} {to v start end : ℕ} → TookNumber ns s to m → TookNumber ns m v k → TookText ns ts k start end r
-    → Took value_edge.from ns ts s (record { destination = to; value = record { type = v; inside = take (end - start) (drop start ts) } }) r
-value_edge_taken ns ts T U X = took_map (λ p. record { destination = p.0; value = p.1 }) (both_taken (T ts) (component_taken ns ts U X))
+pub value_edge_taken : {s m r : Cursor} {to : ℕ} {e : Element} → Took take_number s to m → Took take_component m e r
+    → Took value_edge.from s (record { destination = to; value = e }) r
+value_edge_taken T U = record { is = rw (T.is, U.is); place = U.place ∙ T.place }
+
+pub edge_nowhere : {s : Cursor} → Missing take_number s → Missing value_edge.from s
+edge_nowhere e = record { is = rw e.is }
+
+pub edge_bare : {s m : Cursor} {to : ℕ} → Took take_number s to m → Missing take_component m → Missing value_edge.from s
+edge_bare T e = record { is = rw (T.is, e.is) }

@@ -1,13 +1,13 @@
 -- The whole description: its Version, its size and its bytes. Assumes nothing.
 use mathlib.Core.Path.{◌≡◌, refl, sym, ap, subst, ◌∙◌}
-use mathlib.Core.Bool.{Bool, true, false}
+use mathlib.Core.Bool.{false}
 use mathlib.Core.List.{List, [], ◌∷◌}
 use mathlib.Core.Option.{none, some}
 use Prim.Native.Nat.{ℕ, ◌+◌, ◌≤◌, ◌<◌}
 use native.Mathlib.Omega.{arith}
 use borrow.Author.Tests.{leb-false}
 use lib.Dec.{leb}
-use lib.ListN.{length, drop, length-drop, drop_of_length-le}
+use lib.ListN.{length}
 use Rattle.tlv.specs.Number.{number_bytes}
 use Rattle.tlv.specs.Element.{element_bytes, encode}
 use Rattle.tlv_writer.specs.Stored.{Stored}
@@ -16,12 +16,13 @@ use Rattle.lvs_spec.specs.WellFormed.{this_version}
 use Rattle.lvs_spec.specs.Model.{Model}
 use Rattle.lvs_description.specs.Format.{Lists, Taken, holds}
 use Rattle.lvs_description.specs.Description.{model, model_bytes, nothing_left, description_of}
-use Rattle.lvs_write.specs.declared.Cursor.{Cursor}
-use Rattle.lvs_write.specs.declared.Size.{Size}
+use Rattle.std.specs.Borrow.{Bor}
+use Rattle.std.specs.Prelude.{Option, None, Some}
+use Rattle.lvs_write.specs.declared.cursor.Cursor.{Cursor}
 use Rattle.lvs_write.specs.Spelled.{spelled}
-use Rattle.lvs_write.specs.Steps.{capped, lists_at, state_of, first, version_from, Writes, WritesVersion, size_of, Written}
-use Rattle.lvs_write.proofs.Sizes.{capped_is}
-use Rattle.lvs_write.proofs.Moves.{apart, state_ok, state_not, moved_none, moved_some, one_wrote}
+use Rattle.lvs_write.specs.Steps.{capped, left, version_from, Writes, size_of, Written}
+use Rattle.lvs_write.proofs.Sizes.{capped_capped}
+use Rattle.lvs_write.proofs.Moves.{apart, outcome}
 
 -- ---- the Version
 
@@ -32,100 +33,100 @@ version_is : encode (holds type.Version this_version) ≡ version_bytes
 unfolding encode element_bytes number_bytes
 version_is = refl
 
-behind : Cursor
-behind = record { ok = true; number = 0; text = 0; at = 6 }
-
-version : {b now : List ℕ} → (6 ≤ length b → Stored b now 0 version_bytes) → WritesVersion b now (record { ok = true; number = 0; text = 0; at = 6 })
+version : {b now : List ℕ} {s r : Cursor} → r ≡ record { numbers = s.numbers; texts = s.texts; at = capped (s.at + 6) }
+    → (s.at + 6 ≤ length b → Stored b now s.at version_bytes) → Writes version_from b now s (Some r)
 unfolding version_from
-version {b} {now} st ns ts =
-    one_wrote version_bytes (state_ok ns ts first refl) (ap (λ (x : List ℕ). some (x, lists_at ns ts 0 0)) version_is)
-    (state_ok ns ts _ refl ∙ ap (λ (n : ℕ). some (n, lists_at ns ts 0 0)) (ap capped six))
-    (λ h g. subst (λ (k : ℕ). Stored b now k version_bytes) (sym (capped_is 0 (omega arith))) (st (omega (arith, capped_is 0 (omega arith)))))
-  where
-    six : 6 ≡ capped 0 + 6
-    six = omega (arith, capped_is 0 (omega arith))
+version {s = s} e st =
+    record {
+      by_end =
+          record {
+            bytes = version_bytes;
+            is = λ i. some (version_is i, left (record { numbers = (sym e i).numbers; texts = (sym e i).texts; at = 0 }));
+            place = ap (λ (k : Cursor). capped k.at) e ∙ capped_capped (s.at + 6);
+            put = λ h room. st room;
+          };
+    }
 
-pub version_put : {b now : List ℕ} → Stored b now 0 version_bytes → WritesVersion b now (record { ok = true; number = 0; text = 0; at = 6 })
-version_put st = version (λ h. st)
+pub version_put : {b mid now : List ℕ} {s r : Cursor} → r ≡ record { numbers = s.numbers; texts = s.texts; at = capped (s.at + 6) }
+    → now ≡ mid → Stored b mid s.at version_bytes → Writes version_from b now s (Some r)
+version_put e p st = version e (λ room. record { is = p ∙ st.is })
 
-pub version_no_room : {b : List ℕ} {r : Bool} → r ≡ leb (0 + 6) (length b) → r ≡ false → WritesVersion b b (record { ok = true; number = 0; text = 0; at = 6 })
-version_no_room {b} e f = let far : length b < 0 + 6 = leb-false _ _ (sym e ∙ f) in version (λ h. absurd (omega arith))
+pub version_no_room : {b now : List ℕ} {s r : Cursor} → r ≡ record { numbers = s.numbers; texts = s.texts; at = capped (s.at + 6) }
+    → now ≡ b → leb (s.at + 6) (length b) ≡ false → Writes version_from b now s (Some r)
+version_no_room {b} {s = s} e p f = let far : length b < s.at + 6 = leb-false _ _ f in version e (λ room. absurd (omega arith))
 
 -- ---- the description
 
-module _ (ns ts : List ℕ) {b b' : List ℕ} {c : Cursor} (M : Writes (spelled model) ns ts b b' first c) where
+module _ (ns ts : Bor (List ℕ)) where
   abbrev given : Lists
-  given = record { numbers = ns; texts = ts }
+  given = record { numbers = ns.now; texts = ts.now }
 
-  start : state_of ns ts first ≡ some (capped 0, given)
-  start = state_ok ns ts first refl
+  abbrev start : Cursor
+  start = record { numbers = ns; texts = ts; at = 0 }
 
-  pub not_described : c.ok ≡ false → Size.Nothing ≡ size_of (description_of ns ts)
+  pub not_described : {b b' : List ℕ} → Writes (spelled model) b b' start None → size_of (description_of ns.now ts.now) ≡ None
   unfolding description_of spelled
-  not_described e = go (model.from given) refl
+  not_described M = go (model.from given) refl
     where
-      go : (x : Taken Model) → model.from given ≡ x → Size.Nothing ≡ size_of (description_of ns ts)
+      go : (x : Taken Model) → model.from given ≡ x → size_of (description_of ns.now ts.now) ≡ None
       go none q = rw q
       go (some r) q =
           let there : spelled model given ≡ some (encode (model.elements r.0), r.1) = rw q in
-          absurd (apart (sym (state_not ns ts c e) ∙ M.moved ∙ moved_some (spelled model) start there))
+          absurd (apart (sym M.by_end.is ∙ there))
 
   -- what was read, and what is left
-  record Read : Type 0 where
+  record Read (c : Cursor) : Type 0 where
     model_read : Model
-    is : model.from given ≡ some (model_read, lists_at ns ts c.number c.text)
+    is : model.from given ≡ some (model_read, left c)
     size_is : capped c.at ≡ capped (length (model_bytes model_read))
 
-  read : c.ok ≡ true → Read
-  unfolding model_bytes spelled
-  read e = go (model.from given) refl
-    where
-      there : state_of ns ts c ≡ some (capped c.at, lists_at ns ts c.number c.text)
-      there = state_ok ns ts c e
+  module _ {b b' : List ℕ} {c : Cursor} (M : Writes (spelled model) b b' start (Some c)) where
+    read : Read c
+    unfolding model_bytes spelled
+    read = go (model.from given) refl
+      where
+        go : (x : Taken Model) → model.from given ≡ x → Read c
+        go none q = let nothing : spelled model given ≡ none = rw q in absurd (apart (sym nothing ∙ M.by_end.is))
+        go (some r) q =
+            let found : spelled model given ≡ some (encode (model.elements r.0), r.1) = rw q in
+            let pair : ◌≡◌ {A = List ℕ × Lists} (encode (model.elements r.0), r.1) (M.by_end.bytes, left c) = outcome (sym found ∙ M.by_end.is) in
+            record {
+              model_read = r.0;
+              is = q ∙ (λ i. some (r.0, (pair i).1));
+              size_is = M.by_end.place ∙ ap capped (omega (arith, ap length (λ i. (pair i).0)));
+            }
 
-      go : (x : Taken Model) → model.from given ≡ x → Read
-      go none q =
-          let nothing : spelled model given ≡ none = rw q in
-          absurd (apart (sym (M.moved ∙ moved_none (spelled model) start nothing) ∙ there))
-      go (some r) q =
-          let found : spelled model given ≡ some (encode (model.elements r.0), r.1) = rw q in
-          let bytes : List ℕ = encode (model.elements r.0) in
-          let same = sym there ∙ M.moved ∙ moved_some (spelled model) start found in
-          let pair : ◌≡◌ {A = ℕ × Lists} (capped c.at, lists_at ns ts c.number c.text) (capped (capped 0 + length bytes), r.1) = cc in
-          record {
-            model_read = r.0;
-            is = q ∙ (λ i. some (r.0, (sym pair i).1));
-            size_is = (λ i. (pair i).0) ∙ ap capped (ap (λ (k : ℕ). k + length (model_bytes r.0)) (capped_is 0 (omega arith)) ∙ omega arith);
-          }
+    left_over : description_of ns.now ts.now ≡ nothing_left read.model_read c.numbers.now c.texts.now
+    unfolding description_of
+    left_over = rw read.is
 
-  left_over : (R : Read) → description_of ns ts ≡ nothing_left R.model_read (drop c.number ns) (drop c.text ts)
-  unfolding description_of
-  left_over R = rw R.is
+    pub numbers_left : (length c.numbers.now ≡ 0 → ⊥) → size_of (description_of ns.now ts.now) ≡ None
+    numbers_left h = ap size_of (left_over ∙ go c.numbers.now h)
+      where
+        go : (d : List ℕ) → (length d ≡ 0 → ⊥) → nothing_left read.model_read d c.texts.now ≡ none
+        go [] k = absurd (k refl)
+        go (x ∷ d) k = more c.texts.now
+          where
+            more : (e : List ℕ) → nothing_left read.model_read (x ∷ d) e ≡ none
+            more [] = refl
+            more (y ∷ e) = refl
 
-  not_nil : (l : List ℕ) (n : ℕ) → n < length l → (m : Model) (k : List ℕ) → (nothing_left m (drop n l) k ≡ none) × (nothing_left m k (drop n l) ≡ none)
-  not_nil l n h m k = go (drop n l) refl k
-    where
-      go : (d : List ℕ) → drop n l ≡ d → (k : List ℕ) → (nothing_left m d k ≡ none) × (nothing_left m k d ≡ none)
-      go [] e k = absurd (omega (arith, ap length e, length-drop n l))
-      go (x ∷ d) e [] = (refl, refl)
-      go (x ∷ d) e (y ∷ k) = (refl, refl)
+    pub texts_left : length c.numbers.now ≡ 0 → (length c.texts.now ≡ 0 → ⊥) → size_of (description_of ns.now ts.now) ≡ None
+    texts_left g h = ap size_of (left_over ∙ go c.numbers.now g c.texts.now h)
+      where
+        go : (d : List ℕ) → length d ≡ 0 → (e : List ℕ) → (length e ≡ 0 → ⊥) → nothing_left read.model_read d e ≡ none
+        go [] j [] k = absurd (k refl)
+        go [] j (x ∷ e) k = refl
+        go (y ∷ d) j e k = absurd (omega arith)
 
-  pub numbers_left : c.ok ≡ true → c.number < length ns → Size.Nothing ≡ size_of (description_of ns ts)
-  numbers_left e h =
-      let R = read e in
-      sym (ap size_of (left_over R ∙ (not_nil ns c.number h R.model_read (drop c.text ts)).0))
-
-  pub texts_left : c.ok ≡ true → c.text < length ts → Size.Nothing ≡ size_of (description_of ns ts)
-  texts_left e h =
-      let R = read e in
-      sym (ap size_of (left_over R ∙ (not_nil ts c.text h R.model_read (drop c.number ns)).1))
-
-  pub described_whole : {size : ℕ} → c.ok ≡ true → length ns ≤ c.number → length ts ≤ c.text → size ≡ capped c.at
-      → Size.Bytes size ≡ size_of (description_of ns ts)
-  described_whole e h g s =
-      let R = read e in
-      let d : description_of ns ts ≡ some R.model_read = left_over R ∙ rw (drop_of_length-le ns h, drop_of_length-le ts g) in
-      sym (ap size_of d ∙ ap Size.Bytes (sym (s ∙ R.size_is)))
+    pub described_whole : length c.numbers.now ≡ 0 → length c.texts.now ≡ 0 → size_of (description_of ns.now ts.now) ≡ Some (capped c.at)
+    described_whole g h =
+        ap size_of (left_over ∙ go c.numbers.now g c.texts.now h) ∙ ap Some (sym read.size_is)
+      where
+        go : (d : List ℕ) → length d ≡ 0 → (e : List ℕ) → length e ≡ 0 → nothing_left read.model_read d e ≡ some read.model_read
+        go [] j [] k = refl
+        go [] j (x ∷ e) k = absurd (omega arith)
+        go (y ∷ d) j e k = absurd (omega arith)
 
   all_used : (m x : Model) (a d : List ℕ) → nothing_left x a d ≡ some m → x ≡ m
   all_used m x [] [] q = cc
@@ -133,20 +134,26 @@ module _ (ns ts : List ℕ) {b b' : List ℕ} {c : Cursor} (M : Writes (spelled 
   all_used m x (y ∷ ys) [] q = absurd (apart q)
   all_used m x (y ∷ ys) (z ∷ zs) q = absurd (apart q)
 
-  pub description_written : Written ns ts b b'
+  -- a description is spelled as its model's bytes
+  found : (m : Model) → description_of ns.now ts.now ≡ some m → (rest : Lists) × (spelled model given ≡ some (model_bytes m, rest))
   unfolding description_of model_bytes spelled
-  description_written = record { put = put }
+  found m p = go (model.from given) refl
     where
-      go : (m : Model) (x : Taken Model) → model.from given ≡ x → description_of ns ts ≡ some m
-          → (rest : Lists) × (spelled model given ≡ some (model_bytes m, rest))
-      go m none q p = absurd (apart (sym (rw q) ∙ p))
-      go m (some r) q p =
-          let left : nothing_left r.0 r.1.numbers r.1.texts ≡ some m = sym (rw q) ∙ p in
-          let same : r.0 ≡ m = all_used m r.0 r.1.numbers r.1.texts left in
-          let found : spelled model given ≡ some (encode (model.elements r.0), r.1) = rw q in
-          (r.1, found ∙ (λ i. some (encode (model.elements (same i)), r.1)))
+      go : (x : Taken Model) → model.from given ≡ x → (rest : Lists) × (spelled model given ≡ some (model_bytes m, rest))
+      go none q = absurd (apart (sym (rw q) ∙ p))
+      go (some r) q =
+          let nothing : nothing_left r.0 r.1.numbers r.1.texts ≡ some m = sym (rw q) ∙ p in
+          let same : r.0 ≡ m = all_used m r.0 r.1.numbers r.1.texts nothing in
+          let there : spelled model given ≡ some (encode (model.elements r.0), r.1) = rw q in
+          (r.1, there ∙ (λ i. some (encode (model.elements (same i)), r.1)))
 
-      put : (m : Model) → description_of ns ts ≡ some m → length (model_bytes m) ≤ 32768 → length (model_bytes m) ≤ length b → Stored b b' 0 (model_bytes m)
-      put m p h g =
-          let found = go m (model.from given) refl p in
-          M.put 0 given (model_bytes m) found.0 (start ∙ ap (λ (k : ℕ). some (k, given)) (capped_is 0 (omega arith))) found.1 (omega arith) (omega arith)
+  pub description_written : {b b' : List ℕ} {r : Option Cursor} → Writes (spelled model) b b' start r → Written ns.now ts.now b b'
+  description_written {b} {b'} {r} M = record { put = λ m p h g. put r M m (found m p) h g }
+    where
+      put : (r : Option Cursor) → Writes (spelled model) b b' start r → (m : Model)
+          → (rest : Lists) × (spelled model given ≡ some (model_bytes m, rest)) → length (model_bytes m) ≤ 32768 → length (model_bytes m) ≤ length b
+          → Stored b b' 0 (model_bytes m)
+      put None M m F h g = absurd (apart (sym M.by_end.is ∙ F.1))
+      put (Some c) M m F h g =
+          let same : M.by_end.bytes ≡ model_bytes m = (λ i. (outcome (sym M.by_end.is ∙ F.1) i).0) in
+          subst (Stored b b' 0) same (M.by_end.put (omega (arith, ap length same)) (omega (arith, ap length same)))

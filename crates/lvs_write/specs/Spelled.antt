@@ -6,8 +6,8 @@ use Rattle.tlv.specs.Element.{encode, element_bytes}
 use Rattle.lvs_spec.specs.Types as type
 use Rattle.lvs_description.specs.Format.{Lists, Taken, take_number, Format, integer, text, within}
 use Rattle.lvs_description.specs.Description as description
-use Rattle.lvs_write.specs.declared.Container.{Container}
-use Rattle.lvs_write.specs.declared.Part.{Part}
+use Rattle.lvs_write.specs.declared.parts.Container.{Container}
+use Rattle.lvs_write.specs.declared.parts.Part.{Part}
 
 -- bytes, and what is left of the lists
 abbrev pub Bytes : Type 0

@@ -5,38 +5,16 @@ ghost use Rattle.lvs_spec.specs.Types as type;
 ghost use Rattle.lvs_description.specs.Format.{integer, integer_width, integer_bytes, component, ◌then◌, within};
 ghost use Rattle.lvs_description.specs.Description.{value_edge};
 ghost use Rattle.lvs_write.specs.Spelled.{spelled, text_from};
-ghost use Rattle.lvs_write.specs.Steps.{capped, el, edge_bytes, element_size, header_bytes, Puts, Writes, WritesNumbers};
+ghost use Rattle.lvs_write.specs.Steps.{el, edge_bytes, element_size, header_bytes, Puts, Writes};
 
-use crate::Cursor;
-use crate::lists::{take_number, take_text};
+use crate::cursor::Cursor;
 use lvs_spec::types::{NODE_ID, VALUE, VALUE_EDGE};
 use tlv_writer::{number_size, put_bytes, put_digits, put_number};
 
-// One more than a model may have: bytes are counted up to here.
-const CAP: usize = lvs_spec::MAX_MODEL_BYTES + 1;
-
 // ---- sizes
 
-pub(crate) fn cap(n: usize) -> usize
-    ensures { result ≡ capped n }
-{
-    if n < CAP { n } else { CAP }
-}
-
-// The size so far and n bytes more.
-pub(crate) fn add(size: usize, n: usize) -> usize
-    ensures { result ≡ capped (size + n) }
-{
-    if CAP <= size {
-        return CAP;
-    }
-    if CAP <= n {
-        return CAP;
-    }
-    cap(size + n)
-}
-
 // How many bytes an element takes whose inside has n.
+#[tactic(auto, unfolding(crate::specs::Steps::element_size))]
 pub(crate) fn element_size(typ: u64, n: usize) -> usize
     requires { n + 18 < 2 ^ 64 }
     ensures { result ≡ element_size typ n }
@@ -45,19 +23,16 @@ pub(crate) fn element_size(typ: u64, n: usize) -> usize
 }
 
 // How many bytes an integer takes in the shortest of its four widths.
+#[tactic(auto, unfolding(lvs_description::specs::Format::integer_width))]
 fn integer_width(n: u64) -> usize
     ensures { result ≡ integer_width n }
 {
-    if n < 256 {
-        return 1;
+    match n {
+        0..=0xff => 1,
+        0x100..=0xffff => 2,
+        0x1_0000..=0xffff_ffff => 4,
+        _ => 8,
     }
-    if n < 65536 {
-        return 2;
-    }
-    if n < 4294967296 {
-        return 4;
-    }
-    8
 }
 
 // How many bytes an element takes that is an integer.
@@ -71,10 +46,7 @@ fn integer_size(typ: u64, n: u64) -> usize
 pub(crate) fn has_room(len: usize, at: usize, n: usize) -> bool
     ensures { result ≡ leb (at + n) len }
 {
-    if len < at {
-        return false;
-    }
-    n <= len - at
+    at <= len && n <= len - at
 }
 
 // ---- elements in their places; each answers its size
@@ -165,91 +137,48 @@ fn put_edge_inside(out: &mut [u8], to: u64, component: u64, src: &[u8])
 
 // ---- a leaf of the description
 
-fn moved(s: Cursor, size: usize) -> Cursor
-    ensures { result ≡ record { ok = s.ok; number = s.number; text = s.text; at = capped (s.at + size) } }
+pub(crate) fn write_integer<'a>(typ: u32, out: &mut [u8], s: Cursor<'a>) -> Option<Cursor<'a>>
+    ensures { Writes (spelled (integer typ)) out.old out.new s.entry result }
 {
-    Cursor {
-        ok: s.ok,
-        number: s.number,
-        text: s.text,
-        at: add(s.at, size),
-    }
+    let (n, s) = s.number()?;
+    let size = put_integer(out, s.at, typ as u64, n);
+    Some(s.behind(size))
 }
 
-pub(crate) fn write_integer(typ: u32, numbers: &[u64], out: &mut [u8], s: Cursor) -> Cursor
-    ensures { WritesNumbers (spelled (integer typ)) numbers.now out.old out.new s result }
+pub(crate) fn write_pair<'a>(a: u32, b: u32, out: &mut [u8], s: Cursor<'a>) -> Option<Cursor<'a>>
+    ensures { Writes (spelled (integer a then integer b)) out.old out.new s.entry result }
 {
-    let taken = take_number(numbers, s);
-    let next = taken.next;
-    if !next.ok {
-        return next;
-    }
-    let size = put_integer(out, next.at, typ as u64, taken.value);
-    moved(next, size)
+    let (x, s) = s.number()?;
+    let (y, s) = s.number()?;
+    let size = put_pair(out, s.at, a as u64, x, b as u64, y);
+    Some(s.behind(size))
 }
 
-pub(crate) fn write_pair(a: u32, b: u32, numbers: &[u64], out: &mut [u8], s: Cursor) -> Cursor
-    ensures { WritesNumbers (spelled (integer a then integer b)) numbers.now out.old out.new s result }
+pub(crate) fn write_text<'a>(typ: u32, out: &mut [u8], s: Cursor<'a>) -> Option<Cursor<'a>>
+    ensures { Writes (text_from typ) out.old out.new s.entry result }
 {
-    let x = take_number(numbers, s);
-    let y = take_number(numbers, x.next);
-    let next = y.next;
-    if !next.ok {
-        return next;
-    }
-    let size = put_pair(out, next.at, a as u64, x.value, b as u64, y.value);
-    moved(next, size)
-}
-
-pub(crate) fn write_text(
-    typ: u32,
-    numbers: &[u64],
-    texts: &[u8],
-    out: &mut [u8],
-    s: Cursor,
-) -> Cursor
-    ensures { Writes (text_from typ) numbers.now texts.now out.old out.new s result }
-{
-    let taken = take_text(numbers, texts, s);
-    let next = taken.next;
-    if !next.ok {
-        return next;
-    }
-    let start = taken.start;
-    let end = taken.end;
-    let size = put_text(out, next.at, typ as u64, &texts[start..end]);
-    moved(next, size)
+    let (text, s) = s.text()?;
+    let size = put_text(out, s.at, typ as u64, text);
+    Some(s.behind(size))
 }
 
 // A Value.
-pub(crate) fn write_component(numbers: &[u64], texts: &[u8], out: &mut [u8], s: Cursor) -> Cursor
-    ensures { Writes (spelled (component type.Value)) numbers.now texts.now out.old out.new s result }
+pub(crate) fn write_component<'a>(out: &mut [u8], s: Cursor<'a>) -> Option<Cursor<'a>>
+    ensures { Writes (spelled (component type.Value)) out.old out.new s.entry result }
 {
-    let kind = take_number(numbers, s);
-    let taken = take_text(numbers, texts, kind.next);
-    let next = taken.next;
-    if !next.ok {
-        return next;
-    }
-    let start = taken.start;
-    let end = taken.end;
-    let size = put_component(out, next.at, VALUE as u64, kind.value, &texts[start..end]);
-    moved(next, size)
+    let (kind, s) = s.number()?;
+    let (text, s) = s.text()?;
+    let size = put_component(out, s.at, VALUE as u64, kind, text);
+    Some(s.behind(size))
 }
 
 // A ValueEdge, in one go: nothing in it has to be counted before its header.
-pub(crate) fn write_value_edge(numbers: &[u64], texts: &[u8], out: &mut [u8], s: Cursor) -> Cursor
-    ensures { Writes (spelled (within type.ValueEdge value_edge)) numbers.now texts.now out.old out.new s result }
+pub(crate) fn write_value_edge<'a>(out: &mut [u8], s: Cursor<'a>) -> Option<Cursor<'a>>
+    ensures { Writes (spelled (within type.ValueEdge value_edge)) out.old out.new s.entry result }
 {
-    let to = take_number(numbers, s);
-    let kind = take_number(numbers, to.next);
-    let taken = take_text(numbers, texts, kind.next);
-    let next = taken.next;
-    if !next.ok {
-        return next;
-    }
-    let start = taken.start;
-    let end = taken.end;
-    let size = put_value_edge(out, next.at, to.value, kind.value, &texts[start..end]);
-    moved(next, size)
+    let (to, s) = s.number()?;
+    let (kind, s) = s.number()?;
+    let (text, s) = s.text()?;
+    let size = put_value_edge(out, s.at, to, kind, text);
+    Some(s.behind(size))
 }

@@ -3,105 +3,74 @@
 // part of the buffer that is lent to its writer.
 #![tactic(auto)]
 
+mod cursor;
 mod leaves;
-mod lists;
 mod parts;
 
-ghost use Rattle.std.specs.Prelude.{◌≡◌};
+ghost use Rattle.std.specs.Prelude.{◌≡◌, Some};
 ghost use Rattle.lvs_description.specs.Description.{model, description_of};
 ghost use Rattle.lvs_write.specs.Spelled.{spelled};
-ghost use Rattle.lvs_write.specs.Steps.{first, size_of, Writes, WritesVersion, Written};
+ghost use Rattle.lvs_write.specs.Steps.{size_of, version_from, Writes, Written};
 
-use leaves::{cap, has_room, write_pair};
+use cursor::{Cursor, cap};
+use leaves::{has_room, write_pair};
 use lvs_spec::types::{NAMED_PATTERN_CNT, NODE_ID};
-use parts::write_many;
+use parts::{Container, Part, write_many};
 use tlv_writer::put_bytes;
-
-// Where the next number and the next text are, and how many bytes there are so far. `ok` falls where no description can stand any more.
-#[derive(Clone, Copy)]
-struct Cursor {
-    ok: bool,
-    number: usize,
-    text: usize,
-    at: usize,
-}
-
-// What holds elements, inside a model, and is gone through to learn how many bytes they take.
-#[derive(Clone, Copy)]
-enum Container {
-    Node,
-    Symbol,
-    PatternEdge,
-    Constraint,
-    ConstraintOption,
-    Call,
-    Argument,
-}
-
-// What there may be any number of.
-#[derive(Clone, Copy)]
-enum Part {
-    RuleName,
-    Signer,
-    Term,
-    ValueEdge,
-    Nested(Container),
-}
-
-// How many bytes a description has, counted up to one more than a model may have.
-#[derive(Clone, Copy)]
-pub enum Size {
-    Nothing,
-    Bytes(usize),
-}
 
 const VERSION: [u8; 6] = [0x61, 0x04, 0x00, 0x01, 0x10, 0x00];
 
-// How many bytes the description has that the two lists are, if they are one.
-pub fn described_size(numbers: &[u64], texts: &[u8]) -> Size
-    ensures { result ≡ size_of (description_of numbers.now texts.now) }
-{
-    let mut nothing = [0u8; 0];
-    let c = write_model(numbers, texts, &mut nothing);
-    if !c.ok {
-        return Size::Nothing;
-    }
-    if c.number < numbers.len() {
-        return Size::Nothing;
-    }
-    if c.text < texts.len() {
-        return Size::Nothing;
-    }
-    Size::Bytes(cap(c.at))
+// The two lists that describe a model: numbers, and the bytes of all texts one after the other.
+#[derive(Clone, Copy)]
+pub struct Description<'a> {
+    pub numbers: &'a [u64],
+    pub texts: &'a [u8],
 }
 
-// Writes the bytes of a description over the front of a buffer that has room for them; those behind stay.
-pub fn write_description(numbers: &[u64], texts: &[u8], out: &mut [u8])
-    ensures { Written numbers.now texts.now out.old out.new }
-{
-    write_model(numbers, texts, out);
-}
+impl<'a> Description<'a> {
+    // How many bytes the model has, counted up to one more than a model may have; none where the two lists are no description.
+    pub fn size(self) -> Option<usize>
+        ensures { result ≡ size_of (description_of self.entry.numbers.now self.entry.texts.now) }
+    {
+        let end = self.write_model(&mut [0u8; 0])?;
+        if !end.numbers.is_empty() {
+            return None;
+        }
+        if !end.texts.is_empty() {
+            return None;
+        }
+        Some(cap(end.at))
+    }
 
-fn write_model(numbers: &[u64], texts: &[u8], out: &mut [u8]) -> Cursor
-    ensures { Writes (spelled model) numbers.now texts.now out.old out.new first result }
-{
-    let version = write_version(out);
-    let count = write_pair(NODE_ID, NAMED_PATTERN_CNT, numbers, out, version);
-    let nodes = write_many(Part::Nested(Container::Node), numbers, texts, out, count);
-    write_many(Part::Nested(Container::Symbol), numbers, texts, out, nodes)
+    // Writes the model's bytes over the front of a buffer that has room for them; those behind stay.
+    pub fn write(self, out: &mut [u8])
+        ensures { Written self.entry.numbers.now self.entry.texts.now out.old out.new }
+    {
+        self.write_model(out);
+    }
+
+    fn write_model(self, out: &mut [u8]) -> Option<Cursor<'a>>
+        ensures { Writes (spelled model) out.old out.new
+            (record { numbers = self.entry.numbers; texts = self.entry.texts; at = 0 }) result }
+    {
+        let start = Cursor {
+            numbers: self.numbers,
+            texts: self.texts,
+            at: 0,
+        };
+        let version = write_version(out, start);
+        let count = write_pair(NODE_ID, NAMED_PATTERN_CNT, out, version)?;
+        let nodes = write_many(Part::Nested(Container::Node), out, count)?;
+        write_many(Part::Nested(Container::Symbol), out, nodes)
+    }
 }
 
 // The first element, which the description does not mention.
-fn write_version(out: &mut [u8]) -> Cursor
-    ensures { WritesVersion out.old out.new result }
+fn write_version<'a>(out: &mut [u8], s: Cursor<'a>) -> Cursor<'a>
+    ensures { Writes version_from out.old out.new s.entry (Some result) }
 {
-    if has_room(out.len(), 0, 6) {
-        put_bytes(out, 0, &VERSION);
+    if has_room(out.len(), s.at, VERSION.len()) {
+        put_bytes(out, s.at, &VERSION);
     }
-    Cursor {
-        ok: true,
-        number: 0,
-        text: 0,
-        at: 6,
-    }
+    s.behind(VERSION.len())
 }

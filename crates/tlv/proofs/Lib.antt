@@ -6,3 +6,4 @@ pub mod RoundTrip
 pub mod Sizes
 pub mod Gathered
 pub mod Fields
+pub mod Iterated

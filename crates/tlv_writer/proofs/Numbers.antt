@@ -2,21 +2,20 @@
 use mathlib.Core.Path.{◌≡◌, refl, sym, ap, subst, ◌∙◌}
 use mathlib.Core.Bool.{Bool, true, false, cond}
 use mathlib.Core.List.{List, [], ◌∷◌, ◌++◌}
-use Prim.Native.Nat.{ℕ, ◌+◌, ◌/◌, ◌%◌, ◌^◌, ◌≤◌, ◌<◌}
+use Prim.Native.Nat.{ℕ, ◌+◌, ◌-◌, ◌/◌, ◌%◌, ◌^◌, ◌≤◌, ◌<◌}
 use native.Mathlib.Nat.{mod-lt, div-one, div-add-mod', div-lt_iff_lt-mul}
 use native.Mathlib.Numerals.{add-one}
 use native.Mathlib.Omega.{arith}
-use borrow.Author.Tests.{lt-ltb, le-ltb, ltb-true, ltb-false, eqb-true}
+use borrow.Author.Tests.{lt-ltb, le-ltb, ltb-true, ltb-false}
 use lib.Dec.{ltb, lit≤}
 use lib.Pow.{pow-add}
 use lib.ListN.{length, set, length-append, length-set}
 use lib.Seq.{sets}
 use Rattle.tlv.specs.Bytes.{Bytes, big_endian, big_endian_bytes}
 use Rattle.tlv.specs.Number.{number_bytes, mark, width, integer_size}
-use Rattle.tlv.proofs.Numbers.{only_eight}
 use Rattle.tlv.proofs.Bytes.{pow_pos, bytes_append, bytes_spelled, length-spelled, big_spelled, spelled_big, big_append}
 use Rattle.tlv_writer.specs.Stored.{Stored, Digits}
-use Rattle.tlv_writer.proofs.Stores.{stored_both}
+use Rattle.tlv_writer.proofs.Stores.{stored_front}
 
 -- ---- two halves
 
@@ -33,44 +32,51 @@ spelled_halves w v n h =
     big_append high low ∙ rw (big_spelled w _ top, big_spelled v _ end, length-spelled v (n % 256 ^ v)) (div-add-mod' n (256 ^ v)) in
     sym (spelled_big (high ++ low) bytes) ∙ (λ i. big_endian_bytes (long i) (is i))
 
--- the two halves of a number, stored one behind the other
-pub halves_stored : {b₀ b₁ b₂ : List ℕ} (at w v n : ℕ) → n < 256 ^ (w + v) → Stored b₀ b₁ at (big_endian_bytes w (n / 256 ^ v))
-    → Stored b₁ b₂ (at + w) (big_endian_bytes v (n % 256 ^ v)) → Stored b₀ b₂ at (big_endian_bytes (w + v) n)
-halves_stored {b₀} {b₁} {b₂} at w v n h P Q =
-    let high = big_endian_bytes w (n / 256 ^ v) in
-    let low = big_endian_bytes v (n % 256 ^ v) in
-    record { is = (stored_both P Q (ap (λ (k : ℕ). at + k) (length-spelled w (n / 256 ^ v)))).is ∙ ap (sets b₀ at) (spelled_halves w v n h) }
+-- ---- from the last byte to the first
 
-pub byte_stored : (b : List ℕ) (at n : ℕ) → Stored b (set b at n) at (big_endian_bytes 1 n)
+-- `high` is still to be spelled, in front of i: that gives the whole
+pub record Spelling (before now : List ℕ) (at w n i high : ℕ) : Type 0 where
+  pub low : at ≤ i
+  pub small : high < 256 ^ (i - at)
+  pub rest : (after : List ℕ) → Stored now after at (big_endian_bytes (i - at) high) → Stored before after at (big_endian_bytes w n)
+
+pub spelling_first : {at w n room : ℕ} (b : List ℕ) → Digits at w n room → Spelling b b at w n (at + w) n
+spelling_first {at} {w} {n} b D =
+    let all : w ≡ at + w - at = omega arith in
+    record {
+      low = omega arith;
+      small = subst (λ (k : ℕ). n < 256 ^ k) all D.small;
+      rest = λ after P. subst (λ (k : ℕ). Stored b after at (big_endian_bytes k n)) (sym all) P;
+    }
+
+pub spelling_more : {before now : List ℕ} {at w n high i : ℕ} → Spelling before now at w n i high → at < i
+    → Spelling before (set now (i - 1) (high % 256)) at w n (i - 1) (high / 256)
 unfolding big_endian_bytes
-byte_stored b at n = record { is = ap (set b at) (sym (div-one n)) }
+spelling_more {before} {now} {at} {w} {n} {high} {i} S h =
+    let one : i - at ≡ i - 1 - at + 1 = omega arith in
+    let small : high < 256 ^ (i - 1 - at + 1) = subst (λ (k : ℕ). high < 256 ^ k) one S.small in
+    record {
+      low = omega arith;
+      small = (div-lt_iff_lt-mul (pow_pos 1)).1 (rw (pow-add 256 (i - 1 - at) 1) at small);
+      rest = λ after P.
+          let last : Stored now (set now (i - 1) (high % 256)) (i - 1) (big_endian_bytes 1 (high % 256 ^ 1)) =
+          record { is = ap (set now (i - 1)) (sym (div-one (high % 256))) } in
+          let place : at + length (big_endian_bytes (i - 1 - at) (high / 256 ^ 1)) ≡ i - 1 = omega (arith, length-spelled (i - 1 - at) (high / 256 ^ 1)) in
+          let both = stored_front last P place in
+          let whole = spelled_halves (i - 1 - at) 1 high small ∙ ap (λ (k : ℕ). big_endian_bytes k high) (sym one) in
+          S.rest after (record { is = both.is ∙ ap (sets now at) whole });
+    }
 
--- ---- one of the four widths
-
-pub digits_width : {at w n room : ℕ} (k : ℕ) → Digits at w n room → w ≡ k → (at + k ≤ room) × (n < 256 ^ k)
-digits_width {at} {w} {n} {room} k A e = subst (λ (j : ℕ). (at + j ≤ room) × (n < 256 ^ j)) e (A.fits, A.small)
-
-pub digits_eight : {at w n room : ℕ} → Digits at w n room → (w ≡ 1 → ⊥) → (w ≡ 2 → ⊥) → (w ≡ 4 → ⊥) → w ≡ 8
-digits_eight {at} {w} A a b c = eqb-true w 8 (sym (only_eight w a b c) ∙ A.size)
-
-pub width_stored : {b₀ b₁ : List ℕ} {at w k : ℕ} (n : ℕ) → w ≡ k → Stored b₀ b₁ at (big_endian_bytes k n) → Stored b₀ b₁ at (big_endian_bytes w n)
-width_stored {b₀} {b₁} {at} {w} n e P = subst (λ (j : ℕ). Stored b₀ b₁ at (big_endian_bytes j n)) (sym e) P
+pub spelling_last : {before now : List ℕ} {at w n high i : ℕ} → Spelling before now at w n i high → i ≤ at → Stored before now at (big_endian_bytes w n)
+unfolding big_endian_bytes
+spelling_last {now = now} {at = at} {high = high} {i = i} S h = S.rest now (go (i - at) (omega arith))
+  where
+    go : (k : ℕ) → k ≡ 0 → Stored now now at (big_endian_bytes k high)
+    go k e = rw e (record { is = refl })
 
 -- ---- the shortest form of a type or a length
 
 module _ (n : ℕ) where
-  pub mark_2 : n < 65536 → 253 ≡ mark n
-  unfolding mark
-  mark_2 h = rw (lt-ltb _ _ h)
-
-  pub mark_4 : 65536 ≤ n → n < 4294967296 → 254 ≡ mark n
-  unfolding mark
-  mark_4 g h = rw (le-ltb _ _ g, lt-ltb _ _ h)
-
-  pub mark_8 : 4294967296 ≤ n → 255 ≡ mark n
-  unfolding mark
-  mark_8 g = rw (le-ltb n 65536 (omega arith), le-ltb _ _ g)
-
   -- what holds of each mark and width holds of a number's
   by_mark : (P : ℕ → ℕ → Type 0) → (n < 65536 → P 253 2) → (n < 4294967296 → P 254 4) → P 255 8 → P (mark n) (width (mark n))
   unfolding mark width

@@ -3,11 +3,10 @@ use mathlib.Core.Path.{◌≡◌, refl, sym, ap, ◌∙◌}
 use mathlib.Core.List.{List, [], ◌∷◌, ◌++◌, append_assoc}
 use Prim.Native.Nat.{ℕ, suc, ◌+◌, ◌-◌, ◌≤◌, ◌<◌}
 use native.Mathlib.Nat.{add-suc, suc-add, add-zero, zero-add}
-use native.Mathlib.Numerals.{add-one}
 use native.Mathlib.Omega.{arith}
 use borrow.Rule.Slice.PartMut.{put_mid, same_len_mid, mid_len, take_put, drop_put}
-use lib.ListN.{length, take, drop, set, get_or, length-drop, take-append-drop}
-use lib.Seq.{sets, sets-eq, set_comm, length-sets, take-suc, take_all, take_at, take-take, drop-append-le, drop-drop, length-take-le}
+use lib.ListN.{length, take, drop, set, length-drop, take-append-drop}
+use lib.Seq.{sets, sets-eq, set_comm, length-sets, take_at, take-take, drop-append-le, drop-drop, length-take-le}
 use Rattle.tlv_writer.specs.Stored.{Stored}
 
 pub sets_append : (l : List ℕ) (i : ℕ) (xs ys : List ℕ) → sets (sets l i xs) (i + length xs) ys ≡ sets l i (xs ++ ys)
@@ -45,34 +44,13 @@ stored_front {b₀} {b₁} {b₂} {xs} {ys} {at} P Q e =
 pub stored_length : {b₀ b₁ bs : List ℕ} {at : ℕ} → Stored b₀ b₁ at bs → length b₁ ≡ length b₀
 stored_length {b₀} {b₁} {bs} {at} P = ap length P.is ∙ length-sets b₀ at bs
 
--- ---- a copy
-
--- the first i bytes of s have been stored
-pub record Copied (s before now : List ℕ) (at i : ℕ) : Type 0 where
-  pub is : now ≡ sets before at (take i s)
-  pub within : i ≤ length s
-
-pub copied_none : (s before : List ℕ) (at : ℕ) → Copied s before before at 0
-copied_none s before at = record { is = refl; within = omega arith }
-
-module _ {s before now : List ℕ} {at i : ℕ} (C : Copied s before now at i) where
-  pub copied_length : length now ≡ length before
-  copied_length = ap length C.is ∙ length-sets before at (take i s)
-
-  pub copied_more : i < length s → Copied s before (set now (at + i) (get_or s i 0)) at (i + 1)
-  copied_more h =
-      let k : length (take i s) ≡ i = length-take-le i s C.within in
-      record {
-        is =
-            (λ j. set (C.is j) (at + sym k j) (get_or s i 0)) ∙ sets_append before at (take i s) (get_or s i 0 ∷ []) ∙
-            ap (sets before at) (sym (take-suc s i 0 h) ∙ ap (λ (n : ℕ). take n s) (sym (add-one i)));
-        within = omega arith;
-      }
-
-  pub copied_all : length s ≤ i → Stored before now at s
-  copied_all h = record { is = C.is ∙ ap (sets before at) (take_all i s h) }
-
 -- ---- a part that was lent
+
+-- bytes over a whole part of as many are stored there
+pub stored_part : (l : List ℕ) (at n : ℕ) {y bs : List ℕ} → y ≡ bs → n ≡ length bs → at + length bs ≤ length l → Stored l (put_mid at n l y) at bs
+stored_part l at n {y} {bs} e k fits =
+    let back : drop n (drop at l) ≡ drop (at + length bs) l = drop-drop n at l ∙ ap (λ (m : ℕ). drop (at + m) l) k in
+    record { is = (λ i. take at l ++ (e i ++ back i)) ∙ sym (append_assoc (take at l) bs (drop (at + length bs) l)) ∙ sym (sets-eq bs l at fits) }
 
 -- bytes at the front of the part from h on, of n bytes, are stored from h on
 pub stored_inside : (l : List ℕ) (h n : ℕ) {y bs : List ℕ} → h + n ≤ length l → length bs ≤ n → Stored (take n (drop h l)) y 0 bs

@@ -1,4 +1,3 @@
--- `lvs_codec::write_with` meets its contract: an output that is too short is refused, and of any other the front is written over. Assumes nothing.
 use Rattle.std.proofs.Common.{sym}
 use lib.Seq.{length-take-le}
 use Rattle.lvs_codec.proofs.Writes.{sized_front, on_the_front}

@@ -1,12 +1,14 @@
--- `parts::write_parent` meets its contract. Assumes nothing.
-use Rattle.lvs_write.proofs.Containers.{parent_absent, parent_there, parent_other}
+use Rattle.lvs_write.proofs.Containers.{parent_missing, parent_absent, parent_there, parent_other}
 use Rattle.lvs_write.proofs.parts.write_parent.Goals as goal
 
+pub returns-in_err-kind : goal.returns-in_err-kind
+returns-in_err-kind c = rw c.from_residual.ensures (parent_missing c.in_err-kind.ensures)
+
 pub returns-in-0 : goal.returns-in-0
-returns-in-0 c = parent_absent c.take_number-taken.ensures c.in-0.is
+returns-in-0 c = parent_absent c.in_ok-kind.ensures c.in-0.is
 
 pub returns-in-1 : goal.returns-in-1
-returns-in-1 c = parent_there c.take_number-taken.ensures c.in-1.is c.write_integer.ensures
+returns-in-1 c = parent_there c.in_ok-kind.ensures c.in-1.is c.write_integer.ensures
 
 pub returns-in_default : goal.returns-in_default
-returns-in_default c = parent_other c.take_number-taken.ensures c.in_default.in_default-own.rest.0.1 c.in_default.in_default-own.rest.1 c.stopped.ensures
+returns-in_default c = parent_other c.in_ok-kind.ensures c.in_default.in_default-own.rest.0.1 c.in_default.in_default-own.rest.1

@@ -1,0 +1,5 @@
+use Rattle.lvs_describe.proofs.Puts.{describes_then}
+use Rattle.lvs_describe.proofs.output.Output.pair.Goals as goal
+
+pub returns : goal.returns
+returns c = describes_then c.in_ok-number.ensures c.number-2.ensures
