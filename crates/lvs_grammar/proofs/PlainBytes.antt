@@ -104,7 +104,8 @@ pub identifier_some : (s : List ℕ) → 1 ≤ length s
 unfolding identifier
 identifier_some [] h = absurd (omega arith)
 identifier_some (x ∷ xs) h =
-    ap (λ (b : Bool). letter x && b) (sym (all_same letter_or_digit xs) ∙ ap (list_all letter_or_digit) (sym (take_all (length (x ∷ xs) - 1) xs (omega arith))))
+    let rest : take (length (x ∷ xs) - 1) xs ≡ xs = take_all (length (x ∷ xs) - 1) xs (omega arith) in
+    ap (λ (b : Bool). letter x && b) (sym (all_same letter_or_digit xs) ∙ ap (list_all letter_or_digit) (sym rest))
 
 pub marked_empty : (m : ℕ) (s : List ℕ) → length s < 1 → marked m s ≡ false
 unfolding marked
