@@ -45,6 +45,11 @@ pub broken_not_allowed : (m : Model) (packet : List ℕ) → allows m packet non
 unfolding allows
 broken_not_allowed m packet = refl
 
+-- the key's components start behind its header
+pub record GoodKey (b : List ℕ) (h : ℕ) : Type 0 where
+  pub row : key_name b ≡ good_name (row_from b h)
+  pub short : length b ≤ max_name_bytes
+
 module _ {b : List ℕ} {h : ℕ} (bytes : Bytes b) (one : Alone b h) where
   pub whole_is : element_bytes (component_of b) ≡ b
   whole_is = sym (append-nil (element_bytes (component_of b))) ∙ element_bytes_lem b bytes one.is
@@ -58,22 +63,18 @@ module _ {b : List ℕ} {h : ℕ} (bytes : Bytes b) (one : Alone b h) where
   unfolding unfit key_name
   unfit_is {r} of = sym (rw (whole_is, ← of.is) (refused_is r))
 
-  -- what is not is a good key name, whose components start behind its header
-  pub record GoodKey : Type 0 where
-    pub row : key_name b ≡ good_name (row_from b h)
-    pub short : length b ≤ max_name_bytes
-
-  pub good_key : unfit (some (component_of b)) ≡ false → GoodKey
+  -- what is not is a good key name
+  pub good_key : unfit (some (component_of b)) ≡ false → GoodKey b h
   unfolding unfit key_name
   good_key fit = go (name_reading 24 b) refl (rw whole_is at fit)
     where
-      go : (r : NameReading) → name_reading 24 b ≡ r → is_bad r ≡ false → GoodKey
+      go : (r : NameReading) → name_reading 24 b ≡ r → is_bad r ≡ false → GoodKey b h
       go (bad_name x) e f = clash (cc)
       go (good_name cs) e f = record { row = sym (good_row b 24 e one.is); short = good_short 24 b e }
 
   -- it may sign where the search found a pair
   module _ (packet : List ℕ) {m : Model} {ps : List Component} {r : Answer Nodes} {path after : List ℕ} {slots : List (Answer Span)}
-      (good : good_name ps ≡ packet_name packet) (k : GoodKey) (found : FirstPair m ps (row_from b h) packet b path r slots after) where
+      (good : good_name ps ≡ packet_name packet) (k : GoodKey b h) (found : FirstPair m ps (row_from b h) packet b path r slots after) where
     allows_is : {o : Option Pair} → first (pairs m ps (row_from b h)) ≡ o
         → allows m packet (some (component_of b)) ≡ is_allowed (pair_found o roomy).answer
     unfolding allows

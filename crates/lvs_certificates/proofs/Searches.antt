@@ -8,7 +8,7 @@ use native.Mathlib.Omega.{arith}
 use borrow.Author.Tests.{ltb-false}
 use lib.Dec.{ltb}
 use lib.ListN.{length, take, drop, length-drop, take-append-drop}
-use Rattle.std.specs.Prelude.{Option as Answer, Some, None, Ok, Err}
+use Rattle.std.specs.Prelude.{Option as Answer, Some, None, is_some, Ok, Err}
 use Rattle.std.specs.List.{position_from}
 use Rattle.std.proofs.Common.{take_all}
 use Rattle.tlv.specs.Bytes.{Bytes}
@@ -17,8 +17,9 @@ use Rattle.tlv.specs.Lists.{first_index}
 use Rattle.tlv.proofs.Cuts.{done_nil, by_elements, cuts_end, cuts_malformed, cuts_next, rest_shorter}
 use Rattle.tlv.proofs.RoundTrip.{element_back, element_fits}
 use Rattle.lvs_spec.specs.Limits.{max_certificates}
-use Rattle.lvs_spec.specs.Model.{component_of}
-use Rattle.lvs_spec.specs.Certificates.{Entry, entries, unfit, fit_entries, fitness, list_reading}
+use Rattle.lvs_spec.specs.Model.{Model, component_of}
+use Rattle.lvs_spec.specs.Names.{Component as Binding, good_name, packet_name}
+use Rattle.lvs_spec.specs.Certificates.{Entry, entries, unfit, fit_entries, fitness, list_reading, allows}
 use Rattle.lvs_spec.specs.declared.refusal.Refusal.TheVariants.{ManyCertificates, UnfitCertificate}
 use Rattle.lvs_spec.proofs.Lists.{clash}
 use Rattle.lvs_spec.proofs.Certificates.{no_entry, reading_fit}
@@ -27,9 +28,13 @@ use Rattle.lvs_names.specs.Alone.{Alone}
 use Rattle.lvs_names.specs.Contents.{RowStep}
 use Rattle.lvs_names.specs.Rows.{row_at, row_from}
 use Rattle.lvs_names.specs.declared.parts.Component.{Component}
+use Rattle.lvs_names.proofs.Alone.{alone_of}
+use Rattle.lvs_bindings.specs.declared.Span.{Span}
+use Rattle.lvs_walk.specs.Calls.{FirstPair}
+use Rattle.lvs_walk.specs.declared.search.Pair.{Pair}
 use Rattle.lvs_certificates.specs.Answers.{index_from, list_answer}
 use Rattle.lvs_certificates.specs.Left.{entry_of}
-use Rattle.lvs_certificates.proofs.Keys.{whole_is}
+use Rattle.lvs_certificates.proofs.Keys.{whole_is, GoodKey, good_key, allows_found}
 
 -- ---- what a list begins with
 
@@ -59,11 +64,6 @@ entries_next {b} {x} bytes one st =
     let k = element_back (component_of x) rest (element_fits x bytes one.is) in
     let all-left : take (length b - length x) rest ≡ rest = take_all _ rest (omega (arith, length-drop (length x) b)) in
     rw (all-left, cuts_next b k.0 (component_of x) rest (ap element (sym whole) ∙ k.1))
-
--- an entry that an iteration has given, where it is not such a rest
-pub key_first : {left rest : List Entry} {e : Answer Component} {k : Component} → left ≡ entry_of e ∷ rest → e ≡ Some k
-    → left ≡ some (component_of k.bytes.now) ∷ rest
-key_first {rest = rest} step is = step ∙ ap (λ e. entry_of e ∷ rest) is
 
 -- ---- how many there are
 
@@ -143,6 +143,26 @@ module _ {f : Entry → Bool} {all left : List Entry} where
   pub sought_bad : {n : ℕ} {e : Answer Component} {rest : List Entry} → Sought f all n left → left ≡ entry_of e ∷ rest → e ≡ None → ⊥
   unfolding unfit
   sought_bad s step is = let z : true ≡ false = ap (λ e. unfit (entry_of e)) (sym is) ∙ sought_fit s step in clash (cc)
+
+-- the key that the iteration has given
+module _ {left rest : List Entry} {e : Answer Component} {k : Component} (step : left ≡ entry_of e ∷ rest) (is : e ≡ Some k) where
+  given : left ≡ some (component_of k.bytes.now) ∷ rest
+  given = step ∙ ap (λ e. entry_of e ∷ rest) is
+
+  pub given_good : {f : Entry → Bool} {all : List Entry} {n : ℕ} → Sought f all n left → GoodKey k.bytes.now k.header
+  given_good s = good_key k.fits (alone_of _ _ k.alone) (sought_fit s given)
+
+  module _ {m : Model} {all : List Entry} {n : ℕ} {packet : List ℕ} {ps : List Binding} {r : Answer Pair} {path after : List ℕ} {slots : List (Answer Span)} {t : Bool}
+      (s : Sought (allows m packet) all n left) (good : good_name ps ≡ packet_name packet)
+      (found : FirstPair m ps (row_from k.bytes.now k.header) packet k.bytes.now path r slots after) (told : t ≡ is_some r) where
+    signs : allows m packet (some (component_of k.bytes.now)) ≡ t
+    signs = allows_found k.fits (alone_of _ _ k.alone) packet good (given_good s) found ∙ sym told
+
+    pub given_signs : t ≡ true → Some n ≡ index_from (first_index (allows m packet) 0 all)
+    given_signs e = sought_here s given (signs ∙ e)
+
+    pub given_passed : t ≡ false → Sought (allows m packet) all (n + 1) rest
+    given_passed e = sought_next s given (signs ∙ e)
 
 -- ---- the tests of the whole list
 

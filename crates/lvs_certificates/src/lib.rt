@@ -85,6 +85,7 @@ fn first_unfit(list: &[u8]) -> Option<usize>
     all.position(|entry| is_unfit(entry))
 }
 
+// No key name, or a rest that cannot be cut.
 fn is_unfit(entry: Option<Component>) -> bool
     ensures { result ≡ unfit (entry_of entry.entry) }
 {
@@ -108,7 +109,7 @@ pub fn first_allowed<'a>(
     let all = Entries { rest: list };
     for (index, entry) in all.enumerate() {
         let Some(key) = entry else {
-            return None;
+            return None; // never in a fit list
         };
         let names = Names {
             packet,
