@@ -2,9 +2,6 @@
 //
 // A layer below the public calls: any bytes may be the list. `requires` of the search asks for what the calls have tested before: that the
 // list is fit, and that the packet's name is good.
-//
-// The loops read at a place, and not by tlv's `Elements`: an entry is needed with its header, and what follows the last one may be the end or a rest
-// that cannot be cut.
 #![tactic(auto)]
 
 ghost use Rattle.std.specs.Prelude.{◌≡◌, ltb, length};
@@ -15,13 +12,48 @@ ghost use Rattle.lvs_spec.specs.Names.{good_name, packet_name};
 ghost use Rattle.lvs_spec.specs.Certificates.{entries, unfit, fit_entries, list_reading, allows};
 ghost use Rattle.lvs_names.specs.Rows.{row_from};
 ghost use Rattle.lvs_certificates.specs.Answers.{index_from, list_answer};
+ghost use Rattle.lvs_certificates.specs.Left.{entry_of};
 
 use lvs_bindings::Slots;
 use lvs_bindings::names::Names;
 use lvs_edges::nodes::Nodes;
+use lvs_names::Component;
 use lvs_spec::MAX_CERTIFICATES;
 use lvs_spec::refusal::{Refusal, Side};
-use tlv::{Place, Read};
+
+// The entries of a list, one after the other: each with its header, or `None` for a rest that cannot be cut. tlv's `Elements` gives neither.
+#[derive(Clone, Copy)]
+struct Entries<'a> {
+    rest: &'a [u8],
+}
+
+impl<'a> Iterator for Entries<'a> {
+    ghost use Rattle.std.specs.Iterator.{YieldsFirstBy, item_count};
+    ghost use Rattle.lvs_certificates.specs.Left.{entry_of, entries_left};
+
+    type Item = Option<Component<'a>>;
+
+    ghost next_gives = { YieldsFirstBy entry_of entries_left };
+
+    ghost remaining = { item_count entries_left };
+
+    fn next(&mut self) -> Option<Option<Component<'a>>> {
+        let list = self.rest;
+        if list.is_empty() {
+            return None;
+        }
+        match lvs_names::component_at(list, 0) {
+            Some(key) => {
+                self.rest = &list[key.bytes.len()..];
+                Some(Some(key))
+            }
+            None => {
+                self.rest = &[];
+                Some(None)
+            }
+        }
+    }
+}
 
 /// Tests the whole list.
 pub fn read_list(list: &[u8]) -> Result<(), Refusal>
@@ -41,34 +73,25 @@ pub fn read_list(list: &[u8]) -> Result<(), Refusal>
 fn too_many(list: &[u8]) -> bool
     ensures { result ≡ ltb max_certificates (length (entries list.now)) }
 {
-    let mut place = Place { at: 0 };
-    for _ in 0..MAX_CERTIFICATES {
-        let Read::Found { next, .. } = place.element(list) else {
-            return false;
-        };
-        place = next;
-    }
-    place.at < list.len()
+    let mut all = Entries { rest: list };
+    all.nth(MAX_CERTIFICATES).is_some()
 }
 
 // The first entry that cannot be cut or is no key name.
 fn first_unfit(list: &[u8]) -> Option<usize>
     ensures { result ≡ index_from (first_index unfit 0 (entries list.now)) }
 {
-    let mut place = Place { at: 0 };
-    let mut n: usize = 0; // no range counts it: the list ends the loop
-    loop {
-        match place.element(list) {
-            Read::Found { end, next, .. } => {
-                if lvs_names::read_name(&list[place.at..end], Side::Key).is_err() {
-                    return Some(n);
-                }
-                place = next;
-                n += 1;
-            }
-            Read::End => return None,
-            Read::Malformed => return Some(n), // a rest that cannot be cut
-        }
+    let mut all = Entries { rest: list };
+    all.position(|entry| is_unfit(entry))
+}
+
+// No key name, or a rest that cannot be cut.
+fn is_unfit(entry: Option<Component>) -> bool
+    ensures { result ≡ unfit (entry_of entry.entry) }
+{
+    match entry {
+        Some(key) => lvs_names::read_name(key.bytes, Side::Key).is_err(),
+        None => true,
     }
 }
 
@@ -83,26 +106,21 @@ pub fn first_allowed<'a>(
     requires fit { list_reading (entries list.now) ≡ fit_entries }
     ensures { result ≡ index_from (first_index (allows (model_of nodes.now.model.now) packet.now) 0 (entries list.now)) }
 {
-    let mut place = Place { at: 0 };
-    let mut index: usize = 0; // as in `first_unfit`
-    while let Read::Found {
-        start,
-        end,
-        next,
-        ..
-    } = place.element(list)
-    {
-        let key = &list[place.at..end];
-        let names = Names { packet, key };
-        let header = start - place.at;
+    let all = Entries { rest: list };
+    for (index, entry) in all.enumerate() {
+        let Some(key) = entry else {
+            return None; // never in a fit list
+        };
+        let names = Names {
+            packet,
+            key: key.bytes,
+        };
         let mut slots = Slots::new();
         let mut path = [0u16; 1]; // of which none is lent
-        let pair = lvs_walk::find_pair(nodes, names, from, header, &mut slots, &mut path[..0]);
+        let pair = lvs_walk::find_pair(nodes, names, from, key.header, &mut slots, &mut path[..0]);
         if pair.is_some() {
             return Some(index);
         }
-        place = next;
-        index += 1;
     }
     None
 }

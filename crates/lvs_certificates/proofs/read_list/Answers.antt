@@ -1,6 +1,6 @@
 -- `lvs_certificates::read_list` meets its contract. Assumes nothing.
 use Rattle.std.proofs.Common.{arith}
-use Rattle.lvs_certificates.proofs.Entries.{read_many, read_unfit, read_fit, unfit_below}
+use Rattle.lvs_certificates.proofs.Searches.{read_many, read_unfit, read_fit, unfit_below}
 use Rattle.lvs_certificates.proofs.read_list.Goals as goal
 
 pub returns-then-too_many : goal.returns-then-too_many
