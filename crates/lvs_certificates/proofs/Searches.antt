@@ -152,8 +152,8 @@ module _ {left rest : List Entry} {e : Answer Component} {k : Component} (step :
   pub given_good : {f : Entry → Bool} {all : List Entry} {n : ℕ} → Sought f all n left → GoodKey k.bytes.now k.header
   given_good s = good_key k.fits (alone_of _ _ k.alone) (sought_fit s given)
 
-  module _ {m : Model} {all : List Entry} {n : ℕ} {packet : List ℕ} {ps : List Binding} {r : Answer Pair} {path after : List ℕ} {slots : List (Answer Span)} {t : Bool}
-      (s : Sought (allows m packet) all n left) (good : good_name ps ≡ packet_name packet)
+  module _ {m : Model} {all : List Entry} {n : ℕ} {packet : List ℕ} {ps : List Binding} {r : Answer Pair} {path after : List ℕ}
+      {slots : List (Answer Span)} {t : Bool} (s : Sought (allows m packet) all n left) (good : good_name ps ≡ packet_name packet)
       (found : FirstPair m ps (row_from k.bytes.now k.header) packet k.bytes.now path r slots after) (told : t ≡ is_some r) where
     signs : allows m packet (some (component_of k.bytes.now)) ≡ t
     signs = allows_found k.fits (alone_of _ _ k.alone) packet good (given_good s) found ∙ sym told
