@@ -31,7 +31,7 @@ use Rattle.lvs_names.specs.declared.parts.Component.{Component}
 use Rattle.lvs_names.proofs.Alone.{alone_of}
 use Rattle.lvs_bindings.specs.declared.Span.{Span}
 use Rattle.lvs_walk.specs.Calls.{FirstPair}
-use Rattle.lvs_walk.specs.declared.search.Pair.{Pair}
+use Rattle.lvs_walk.specs.declared.goal.Pair.{Pair}
 use Rattle.lvs_certificates.specs.Answers.{index_from, list_answer}
 use Rattle.lvs_certificates.specs.Left.{entry_of}
 use Rattle.lvs_certificates.proofs.Keys.{whole_is, GoodKey, good_key, allows_found}
