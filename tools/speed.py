@@ -587,7 +587,7 @@ def walks():
     yield "bushy, values alike", list(drawn(ALIKE, 48))
 
 
-NAMES, WALK, PLACES, FOLLOW = "lvs_names::read_name", "lvs_walk::walk", "lvs_edges::nodes::node_places", "lvs_follow::follow_name"
+NAMES, WALK, PLACES, FOLLOW = "lvs_names::read_name", "lvs_walk::walk", "lvs_edges::nodes::Nodes::of", "lvs_follow::follow_name"
 # as the reference calls the first two, and what it writes while it still walks, which ours does behind the walk
 THEIRS = {"names": "*Name*load*", "walk": "*walk_from*", "words": "*write_bindings*"}
 
