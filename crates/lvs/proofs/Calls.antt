@@ -155,7 +155,8 @@ module _ (b packet list : List ℕ) where
       listed = rw (accepted_usable b n accepted, ← name)
 
       -- the list is refused
-      pub suggest_bad_list : {x : Refused} → Err x ≡ list_answer (list_reading (entries list)) → suggest_answer b packet list ≡ SuggestAnswer.refused (refusal_of x)
+      pub suggest_bad_list : {x : Refused} → Err x ≡ list_answer (list_reading (entries list))
+          → suggest_answer b packet list ≡ SuggestAnswer.refused (refusal_of x)
       unfolding suggest_from
       suggest_bad_list {x} read = listed ∙ go (list_reading (entries list)) read
         where
@@ -172,7 +173,8 @@ module _ (b packet list : List ℕ) where
       pub suggest_found : {t : Unit {0}} {o : Option ℕ} → Ok t ≡ list_answer (list_reading (entries list))
           → o ≡ index_from (first_index (allows (model_of b) packet) 0 (entries list)) → suggest_answer b packet list ≡ suggested (index_of o)
       unfolding suggest_from
-      suggest_found read e = listed ∙ ap (suggest_from (model_of b) packet (entries list)) (read_as_fit read) ∙ ap suggested (sym (ap index_of e ∙ same_index _))
+      suggest_found read e =
+          listed ∙ ap (suggest_from (model_of b) packet (entries list)) (read_as_fit read) ∙ ap suggested (sym (ap index_of e ∙ same_index _))
 
 -- one that was found fits into a word
 pub index_few : (f : Entry → Bool) (list : List ℕ) {t : Unit {0}} {i : ℕ} → Ok t ≡ list_answer (list_reading (entries list))

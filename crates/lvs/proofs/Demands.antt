@@ -86,6 +86,13 @@ Lent = MutBor (List ℕ)
 abbrev pub holding : Slice → List ℕ → Slice
 holding s xs = record { ref_ptr = s.ref_ptr; now = xs }
 
+-- the answers that found something
+abbrev pub a_match : ℕ → ℕ → MatchAnswer
+a_match v n = Ok (Some (record { node = v; bound = n }))
+
+abbrev pub a_pair : ℕ → ℕ → SignAnswer
+a_pair p k = Ok (Some (record { packet = p; key = k }))
+
 -- a call of `judge_model` with a slice that holds `model` answered r
 pub record Judged (model : List ℕ) (r : Result ℕ Refusal) : Type 0 where
   pub lives : Lfts 1
@@ -213,7 +220,7 @@ module _ {model name buffer after : List ℕ} where
   match_refusals_lem c = match_number model name buffer _ (sym (answered c))
 
   -- a match is answered exactly when there is one
-  pub match_exactly : {r : MatchAnswer} → Matched model name buffer r after → ((v n : ℕ) × (r ≡ Ok (Some (record { node = v; bound = n })))) ↔ SomeMatch model name buffer
+  pub match_exactly : {r : MatchAnswer} → Matched model name buffer r after → ((v n : ℕ) × (r ≡ a_match v n)) ↔ SomeMatch model name buffer
   match_exactly {r} c = (
     λ (v, n, e). (match_some model name buffer).0 (v, n, sym (answered c) ∙ ap match_answer_of e),
     λ s. let (v, n, e) = (match_some model name buffer).1 s in (v, n, same_matching r _ (answered c ∙ e)),
@@ -227,26 +234,26 @@ module _ {model name buffer after : List ℕ} where
   )
 
   -- it is the first; n Tags are bound, and the buffer holds their places, and after these what it held
-  pub first_match : {v n : ℕ} → Matched model name buffer (Ok (Some (record { node = v; bound = n }))) after → MatchedBy model name buffer v n after
+  pub first_match : {v n : ℕ} → Matched model name buffer (a_match v n) after → MatchedBy model name buffer v n after
   first_match {v} {n} c = rw (left c) (match_matched model name buffer v n (sym (answered c)))
 
   -- the three words of each Tag, suc i, are those of what it is bound to
-  pub match_words : {v n : ℕ} (c : Matched model name buffer (Ok (Some (record { node = v; bound = n }))) after) (i : ℕ) → i < max_tag
+  pub match_words : {v n : ℕ} (c : Matched model name buffer (a_match v n) after) (i : ℕ) → i < max_tag
       → words_at after i ≡ tag_words (bound (first_match c).match.bindings (suc i))
   match_words c = matched_at (first_match c)
 
   -- which is from the packet, and stands in its name where they say
-  pub match_origins : {v n : ℕ} (c : Matched model name buffer (Ok (Some (record { node = v; bound = n }))) after) → Bytes name → (t : ℕ) {d : Binding}
+  pub match_origins : {v n : ℕ} (c : Matched model name buffer (a_match v n) after) → Bytes name → (t : ℕ) {d : Binding}
       → bound (first_match c).match.bindings t ≡ some d → (d.origin ≡ packet_origin) × StandsIn name d.component
   match_origins c = match_stands (first_match c)
 
   -- those of a temporary Tag are 0, and no more Tags are bound than are named
-  pub temporary_words_zero : {v n : ℕ} → Matched model name buffer (Ok (Some (record { node = v; bound = n }))) after → (i : ℕ) → (model_of model).pattern_count < suc i
+  pub temporary_words_zero : {v n : ℕ} → Matched model name buffer (a_match v n) after → (i : ℕ) → (model_of model).pattern_count < suc i
       → suc i ≤ max_tag → words_at after i ≡ 0 ∷ 0 ∷ 0 ∷ []
   unfolding tag_words
   temporary_words_zero c = temporary_words (first_match c)
 
-  pub bound_at_most : {v n : ℕ} → Matched model name buffer (Ok (Some (record { node = v; bound = n }))) after → n ≤ (model_of model).pattern_count
+  pub bound_at_most : {v n : ℕ} → Matched model name buffer (a_match v n) after → n ≤ (model_of model).pattern_count
   bound_at_most c = bound_few (first_match c)
 
 -- the answer does not depend on what the buffer holds, only on its length
@@ -292,7 +299,7 @@ module _ {model packet key : List ℕ} {s after : Buffers} where
   -- "allowed" exactly when some packet match, and some key match that starts from its bindings, end at a node and at a signer which
   -- that node lists, and there is room for bindings and path
   pub allowed_exactly : {r : SignAnswer} → Signed model packet key s r after
-      → ((p k : ℕ) × (r ≡ Ok (Some (record { packet = p; key = k })))) ↔ (SomeAllowed model packet key × SignRoom packet key s)
+      → ((p k : ℕ) × (r ≡ a_pair p k)) ↔ (SomeAllowed model packet key × SignRoom packet key s)
   allowed_exactly {r} c = (
     λ (p, k, e). (sign_some model packet key s).0 (p, k, sym (signed_answer c) ∙ ap sign_answer_of e),
     λ a. let (p, k, e) = (sign_some model packet key s).1 a in (p, k, same_signing r _ (signed_answer c ∙ e)),
@@ -307,27 +314,27 @@ module _ {model packet key : List ℕ} {s after : Buffers} where
   )
 
   -- the pair is the first: packet matches in order, for each the key matches in order; bindings and path are its own, and later words stay
-  pub first_pair : {p k : ℕ} → Signed model packet key s (Ok (Some (record { packet = p; key = k }))) after → SignedBy model packet key s p k after
+  pub first_pair : {p k : ℕ} → Signed model packet key s (a_pair p k) after → SignedBy model packet key s p k after
   first_pair {p} {k} c = rw (buffers_left c) (sign_allowed model packet key s p k (sym (signed_answer c)))
 
   -- the three words of each Tag, suc i, are those of what it is bound to where the key's walk ended
-  pub pair_words : {p k : ℕ} (c : Signed model packet key s (Ok (Some (record { packet = p; key = k }))) after) (i : ℕ) → i < max_tag
+  pub pair_words : {p k : ℕ} (c : Signed model packet key s (a_pair p k) after) (i : ℕ) → i < max_tag
       → words_at after.words i ≡ tag_words (bound (first_pair c).pair.key.bindings (suc i))
   pair_words c = signed_at (first_pair c)
 
   -- which stands in the name of its origin where they say
-  pub pair_origins : {p k : ℕ} (c : Signed model packet key s (Ok (Some (record { packet = p; key = k }))) after) → Bytes packet → Bytes key → (t : ℕ) {d : Binding}
+  pub pair_origins : {p k : ℕ} (c : Signed model packet key s (a_pair p k) after) → Bytes packet → Bytes key → (t : ℕ) {d : Binding}
       → bound (first_pair c).pair.key.bindings t ≡ some d → Whose packet key d
   pair_origins c = pair_stands (first_pair c)
 
   -- that is where it was first bound: a Tag that the packet bound keeps this, whether the key met it again or not
-  pub origin_first : {p k : ℕ} (c : Signed model packet key s (Ok (Some (record { packet = p; key = k }))) after) (t : ℕ)
+  pub origin_first : {p k : ℕ} (c : Signed model packet key s (a_pair p k) after) (t : ℕ)
       → let by = first_pair c in
       FirstBound by.packet_components by.key_components (bound by.pair.packet.bindings t) (bound by.pair.key.bindings t)
   origin_first c = let by = first_pair c in first_bound by.model by.packet_components by.key_components by.allowed
 
   -- those of a temporary Tag are 0
-  pub temporary_pair_words_zero : {p k : ℕ} → Signed model packet key s (Ok (Some (record { packet = p; key = k }))) after → (i : ℕ) → (model_of model).pattern_count < suc i
+  pub temporary_pair_words_zero : {p k : ℕ} → Signed model packet key s (a_pair p k) after → (i : ℕ) → (model_of model).pattern_count < suc i
       → suc i ≤ max_tag → words_at after.words i ≡ 0 ∷ 0 ∷ 0 ∷ []
   unfolding tag_words
   temporary_pair_words_zero c = temporary_pair_words (first_pair c)
@@ -362,12 +369,12 @@ module _ {model packet key path : List ℕ} where
 
   -- whoever made the path, accepted means allowed: a signing call with room enough says so
   pub accepted_signs : {s after : Buffers} {r : SignAnswer} → Followed model packet key path (Ok true)
-      → SignRoom packet key s → Signed model packet key s r after → (p k : ℕ) × (r ≡ Ok (Some (record { packet = p; key = k })))
+      → SignRoom packet key s → Signed model packet key s r after → (p k : ℕ) × (r ≡ a_pair p k)
   accepted_signs c enough d = (allowed_exactly d).1 (accepted_allowed model packet key path (sym (followed_is c)), enough)
 
 -- the path of an allowed answer is accepted: the first words after it, one for each component
 pub signed_accepted : {model packet key : List ℕ} {s after : Buffers} {p k : ℕ} {r : Result Bool Refusal}
-    (c : Signed model packet key s (Ok (Some (record { packet = p; key = k }))) after)
+    (c : Signed model packet key s (a_pair p k) after)
     → let by = first_pair c in Followed model packet key (take (length by.packet_components + length by.key_components) after.path) r
     → r ≡ Ok true
 signed_accepted {r = r} c f = same_following r _ (followed_is f ∙ path_accepted (first_pair c))
@@ -402,7 +409,7 @@ pub record FirstBySigning (model packet list : List ℕ) (i : ℕ) : Type 0 wher
   pub earlier : {k : List ℕ} {s after : Buffers} {r : SignAnswer} → Memᴰ k before → SignRoom packet k s → Signed model packet k s r after
       → r ≡ Ok None
   pub allowed : {s after : Buffers} {r : SignAnswer} → SignRoom packet key s → Signed model packet key s r after
-      → (p k : ℕ) × (r ≡ Ok (Some (record { packet = p; key = k })))
+      → (p k : ℕ) × (r ≡ a_pair p k)
 
 -- or not to any
 pub record NoneBySigning (model packet list : List ℕ) : Type 0 where
@@ -540,11 +547,13 @@ large_counts_alike {a} {b} {i} {j} c d l k e =
 
 -- a critical element x in any gap makes all calls refuse with 2 and the very place where x stands then, unless the model becomes too long
 pub critical_refuses : (b b' : List ℕ) (m : Model) (x : Element) → reading b ≡ describes m → meaning x.type ≡ critical
-    → type_in_range x.type ≡ true → (i : Inserted x b b') → length b' ≤ max_model_bytes → RefusedCalls (refused.Malformed (gap_place i)) b' × Stands x (gap_place i) b'
+    → type_in_range x.type ≡ true → (i : Inserted x b b') → length b' ≤ max_model_bytes
+    → RefusedCalls (refused.Malformed (gap_place i)) b' × Stands x (gap_place i) b'
 critical_refuses b b' m x r c t i l = (refused_calls (critical_refused b b' m x r c t i l), stands i)
 
 -- another version, after optional elements and before any bytes, makes all refuse with 3, unless the model is too long
 pub other_version_refuses : (es : List Element) (v rest : List ℕ) → Each InRange es → Each (λ e. meaning e.type ≡ optional) es → length v ≡ 4
     → ¬ (v ≡ this_version)
-    → let b : List ℕ = encode es ++ (element_bytes (record { type = type.Version; inside = v }) ++ rest) in length b ≤ max_model_bytes → RefusedCalls refused.OtherVersion b
+    → let b : List ℕ = encode es ++ (element_bytes (record { type = type.Version; inside = v }) ++ rest) in
+    length b ≤ max_model_bytes → RefusedCalls refused.OtherVersion b
 other_version_refuses es v rest f o n other l = refused_calls (version_refused es v rest f o n other l)

@@ -96,7 +96,8 @@ module _ {packet : List ℕ} {slots : List (Option Span)} {before buffer : List 
       record {
         long = same_len_mid (i * 3) (i * 3 + 3 - i * 3) buffer w w-long ∙ W.long;
         copied = copied;
-        counted = λ key. rw (taken h key) (omega (arith, W.counted key, b-is, one_more packet key (get_or slots i None) (take i (bindings_of packet key slots))));
+        counted = λ key. rw (taken h key)
+            (omega (arith, W.counted key, b-is, one_more packet key (get_or slots i None) (take i (bindings_of packet key slots))));
         few = omega (arith, W.few, one_few (get_or slots i None));
       }
     where

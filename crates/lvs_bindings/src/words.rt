@@ -1,5 +1,4 @@
 // Where the span of a Tag is, and the words that it comes to.
-ghost use Rattle.std.specs.Prelude.{◌≡◌};
 ghost use Rattle.lvs_bindings.specs.Slots.{IndexOf, WordsOf};
 
 use crate::{KEY_ORIGIN, PACKET_ORIGIN, Span};

@@ -1,14 +1,10 @@
 //! A method for each letter: it takes the fields behind the first, makes the call and puts the line.
-ghost use Rattle.std.specs.Prelude.{IfSome};
-ghost use Rattle.lvs_names.specs.Contents.{Alone};
-
 use crate::input::{Broken, CaseReader};
 use crate::output::{AnswerWriter, Hex, Listed};
-use lvs::{MatchAnswer, SignAnswer, SuggestAnswer};
-use lvs_codec::{DescribeAnswer, WriteAnswer};
-use lvs_follow::FollowAnswer;
-use lvs_names::ComponentRead;
-use lvs_verdict::Verdict;
+use lvs::{Match, Pair};
+use lvs_codec::Lengths;
+use lvs_names::Component;
+use lvs_spec::refusal::Refusal;
 use std::io::{Read, Write};
 
 /// The longest name.
@@ -30,8 +26,8 @@ impl<R: Read, W: Write> Driver<R, W> {
     /// `V`: the verdict on a model.
     pub fn judge(&mut self, model: &[u8]) {
         match lvs_verdict::judge_model(model) {
-            Verdict::Accepted { nodes } => self.out.put(format_args!("accepted {nodes}")),
-            Verdict::Refused { number, at } => self.put_refused(number, at),
+            Ok(nodes) => self.out.put(format_args!("accepted {nodes}")),
+            Err(refusal) => self.put_refused(refusal),
         }
         self.out.put("\n");
     }
@@ -43,11 +39,11 @@ impl<R: Read, W: Write> Driver<R, W> {
         let name = self.input.field(&mut name)?;
         let words = self.input.numbers(&mut words)?;
         match lvs::match_name(model, name, words) {
-            MatchAnswer::Match { node, bound } => self
+            Ok(Some(Match { node, bound })) => self
                 .out
                 .put(format_args!("match {node} {bound}")),
-            MatchAnswer::NoMatch => self.out.put("no match"),
-            MatchAnswer::Refused { number, at } => self.put_refused(number, at),
+            Ok(None) => self.out.put("no match"),
+            Err(refusal) => self.put_refused(refusal),
         }
         self.out.put(format_args!("{}\n", Listed(words)));
         Ok(())
@@ -64,11 +60,11 @@ impl<R: Read, W: Write> Driver<R, W> {
         let words = self.input.numbers(&mut words)?;
         let path = self.input.numbers(&mut path)?;
         match lvs::sign(model, packet, key, words, path) {
-            SignAnswer::Allowed { packet, key } => self
+            Ok(Some(Pair { packet, key })) => self
                 .out
                 .put(format_args!("allowed {packet} {key}")),
-            SignAnswer::NotAllowed => self.out.put("not allowed"),
-            SignAnswer::Refused { number, at } => self.put_refused(number, at),
+            Ok(None) => self.out.put("not allowed"),
+            Err(refusal) => self.put_refused(refusal),
         }
         self.out
             .put(format_args!("{}{}\n", Listed(words), Listed(path)));
@@ -84,9 +80,9 @@ impl<R: Read, W: Write> Driver<R, W> {
         let key = self.input.field(&mut key)?;
         let path = self.input.numbers(&mut path)?;
         match lvs_follow::follow(model, packet, key, path) {
-            FollowAnswer::Accepted => self.out.put("accepted"),
-            FollowAnswer::No => self.out.put("no"),
-            FollowAnswer::Refused { number, at } => self.put_refused(number, at),
+            Ok(true) => self.out.put("accepted"),
+            Ok(false) => self.out.put("no"),
+            Err(refusal) => self.put_refused(refusal),
         }
         self.out.put("\n");
         Ok(())
@@ -98,11 +94,11 @@ impl<R: Read, W: Write> Driver<R, W> {
         let packet = self.input.field(&mut packet)?;
         let list = self.input.field(list)?;
         match lvs::suggest(model, packet, list) {
-            SuggestAnswer::Certificate { index } => self
+            Ok(Some(index)) => self
                 .out
                 .put(format_args!("certificate {index}")),
-            SuggestAnswer::NoCertificate => self.out.put("none"),
-            SuggestAnswer::Refused { number, at } => self.put_refused(number, at),
+            Ok(None) => self.out.put("none"),
+            Err(refusal) => self.put_refused(refusal),
         }
         self.out.put("\n");
         Ok(())
@@ -119,8 +115,8 @@ impl<R: Read, W: Write> Driver<R, W> {
         let texts = self.input.field(texts)?;
         let output = self.input.field(output)?;
         match lvs_codec::write_model(numbers, texts, output) {
-            WriteAnswer::Written(size) => self.out.put(format_args!("written {size}")),
-            WriteAnswer::Refused { number, at } => self.put_refused(number, at),
+            Ok(size) => self.out.put(format_args!("written {size}")),
+            Err(refusal) => self.put_refused(refusal),
         }
         self.out.put(format_args!("{}\n", Hex(output)));
         Ok(())
@@ -136,10 +132,10 @@ impl<R: Read, W: Write> Driver<R, W> {
         let numbers = self.input.numbers(numbers)?;
         let texts = self.input.field(texts)?;
         match lvs_codec::describe_model(model, numbers, texts) {
-            DescribeAnswer::Described { numbers, texts } => {
+            Ok(Lengths { numbers, texts }) => {
                 self.out.put(format_args!("described {numbers} {texts}"));
             }
-            DescribeAnswer::Refused { number, at } => self.put_refused(number, at),
+            Err(refusal) => self.put_refused(refusal),
         }
         self.out
             .put(format_args!("{}{}\n", Listed(numbers), Hex(texts)));
@@ -149,9 +145,9 @@ impl<R: Read, W: Write> Driver<R, W> {
     /// `E`: two components compared, and how many bytes of their values were looked at.
     pub fn compare(&mut self, first: &[u8], second: &mut [u8]) -> Result<(), Broken> {
         let second = self.input.field(second)?;
-        header_of(first).ok_or(Broken)?;
-        let header = header_of(second).ok_or(Broken)?;
-        let compared = lvs_names::compare(first, second, header);
+        let first = component_of(first).ok_or(Broken)?;
+        let second = component_of(second).ok_or(Broken)?;
+        let compared = lvs_names::compare(first.bytes, second);
         let looked = compared.looked;
         if compared.equal {
             self.out.put(format_args!("equal {looked}\n"));
@@ -161,24 +157,19 @@ impl<R: Read, W: Write> Driver<R, W> {
         Ok(())
     }
 
-    fn put_refused(&mut self, number: u32, at: u32) {
-        self.out.put(format_args!("refused {number} {at}"));
+    fn put_refused(&mut self, refusal: Refusal) {
+        self.out
+            .put(format_args!("refused {} {}", refusal.number(), refusal.at()));
     }
 }
 
-/// The size of the header of the component that `s` is, where it is one component and no more.
-fn header_of(s: &[u8]) -> Option<usize>
-    ensures { IfSome result (λ header. Alone s.now header) }
-{
-    let ComponentRead::Component(header, end) = lvs_names::component_at(s, 0) else {
-        return None;
-    };
-    if end != s.len() {
-        return None;
+/// The component that `s` is, where it is one and no more.
+fn component_of(s: &[u8]) -> Option<Component<'_>> {
+    let component = lvs_names::component_at(s, 0)?;
+    let typ = lvs_names::read_component(s).typ;
+    if component.bytes.len() == s.len() && typ <= lvs_spec::MAX_COMPONENT_TYPE {
+        Some(component)
+    } else {
+        None
     }
-    let component = lvs_names::read_component(s);
-    if lvs_spec::MAX_COMPONENT_TYPE < component.typ {
-        return None;
-    }
-    Some(header)
 }

@@ -9,8 +9,7 @@ ghost use Rattle.std.specs.Int.{to_be_bytes, w16};
 ghost use Rattle.std.specs.Io.KnownBytes.{Consumes};
 ghost use Rattle.lvs_check.specs.Request.{name_of, request_of};
 
-use lvs::SignAnswer;
-use lvs_verdict::Verdict;
+use lvs::Pair;
 use std::fmt::Display;
 use std::fs::File;
 use std::io;
@@ -49,10 +48,11 @@ fn main(rt: HostRuntime) {
     let mut space = [0; MODEL_BYTES];
     let model = read_model(&rt, &mut space);
     match lvs_verdict::judge_model(model) {
-        Verdict::Refused { number, at } => {
+        Err(refusal) => {
+            let (number, at) = (refusal.number(), refusal.at());
             put_line(&rt, format_args!("model refused {number} at {at}"));
         }
-        Verdict::Accepted { nodes } => {
+        Ok(nodes) => {
             put_line(&rt, format_args!("model {nodes} nodes"));
             // `stdin` has no buffer: what is read is what was asked for
             answer_requests(&rt, &mut rt.stdin(), model);
@@ -164,12 +164,10 @@ fn answer<P: Print>(rt: &P, model: &[u8], k: u64, request: Request) {
     let mut path = [0; lvs_spec::PATH_WORDS];
     let Request { packet, key } = request;
     match lvs::sign(model, packet, key, &mut words, &mut path) {
-        SignAnswer::Allowed { packet, key } => {
+        Ok(Some(Pair { packet, key })) => {
             put_line(rt, format_args!("{k} allowed {packet} {key}"));
         }
-        SignAnswer::NotAllowed => put_line(rt, format_args!("{k} not allowed")),
-        SignAnswer::Refused { number, at: _ } => {
-            put_line(rt, format_args!("{k} refused {number}"));
-        }
+        Ok(None) => put_line(rt, format_args!("{k} not allowed")),
+        Err(refusal) => put_line(rt, format_args!("{k} refused {}", refusal.number())),
     }
 }

@@ -48,7 +48,8 @@ pub bound_same : (s : Bindings) (tag : ℕ) (c : Element) {r : Answer (Bor (List
 unfolding bound_to argument_in
 bound_same s tag c {r = r} B = go (bound s tag) B.is
   where
-    go : (o : Option Binding) → (bind o λ d. some d.component.content) ≡ component_in r → is (λ d. same d.component.content c) o ≡ is (λ a. same a c) (component_in r)
+    go : (o : Option Binding) → (bind o λ d. some d.component.content) ≡ component_in r
+        → is (λ d. same d.component.content c) o ≡ is (λ a. same a c) (component_in r)
     go none e = ap (is (λ a. same a c)) e
     go (some d) e = ap (is (λ a. same a c)) e
 

@@ -180,7 +180,8 @@ cross_leads m b x i e = go (bindings_after m.pattern_count x.bindings b e)
     go (some s) = refl
 
 -- the step of a walk that a crossing is, from x with the edge of ordinal i
-pub crossed_step : {count : ℕ} {packet key : List ℕ} {before after : List (Answer Span)} {e : Edge} {b : Binding} {r : Answer Crossing} (m : Model) (x : Match) (i : ℕ)
+pub crossed_step : {count : ℕ} {packet key : List ℕ} {before after : List (Answer Span)} {e : Edge} {b : Binding} {r : Answer Crossing}
+    (m : Model) (x : Match) (i : ℕ)
     → count ≡ m.pattern_count → bindings_of packet key before ≡ x.bindings → Crossed count packet key e b before r after
     → cross m b x i e ≡ bind (reached r (bindings_of packet key after)) (arriving (x.path ++ (i ∷ [])))
 crossed_step {e = e} {b = b} m x i count-is before_is crossed =

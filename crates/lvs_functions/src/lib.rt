@@ -27,7 +27,7 @@ impl Function {
     }
 }
 
-/// The function that a FnId names, compared byte for byte.
+/// The function that a FnId names, compared byte for byte. By `==`, since a match on byte strings leaves a goal for each byte at which it fails.
 pub fn function_of(s: &[u8]) -> Option<Function>
     ensures { result ≡ function_read (function_of s.now) }
 {

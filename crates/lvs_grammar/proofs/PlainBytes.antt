@@ -18,7 +18,7 @@ use Rattle.tlv.specs.declared.Place.{Place}
 use Rattle.tlv.specs.declared.Read.{Read}
 use Rattle.tlv.specs.declared.Read.TheVariants.{Found, End, Malformed}
 use Rattle.tlv.proofs.Cuts.{Whole, element_whole}
-use Rattle.tlv.specs.Lists.{all}
+use Rattle.tlv.proofs.Iterated.{all_same}
 use Rattle.lvs_spec.specs.Limits.{max_component_type}
 use Rattle.lvs_spec.specs.Places.{must, from, value_fault}
 use Rattle.lvs_spec.specs.Leaves.{is_component, letter, letter_or_digit, identifier, marked}
@@ -93,10 +93,6 @@ module _ (s : List ℕ) (start : ℕ) {r : Read} (e : r ≡ read_at s 0) where
 
 -- ---- identifiers
 
-listed : (test : ℕ → Bool) (s : List ℕ) → list_all test s ≡ all test s
-listed test [] = refl
-listed test (x ∷ s) = ap (λ (b : Bool). test x && b) (listed test s)
-
 pub identifier_empty : (s : List ℕ) → length s < 1 → identifier s ≡ false
 unfolding identifier
 identifier_empty [] h = refl
@@ -108,7 +104,8 @@ pub identifier_some : (s : List ℕ) → 1 ≤ length s
 unfolding identifier
 identifier_some [] h = absurd (omega arith)
 identifier_some (x ∷ xs) h =
-    ap (λ (b : Bool). letter x && b) (sym (listed letter_or_digit xs) ∙ ap (list_all letter_or_digit) (sym (take_all (length (x ∷ xs) - 1) xs (omega arith))))
+    let rest : take (length (x ∷ xs) - 1) xs ≡ xs = take_all (length (x ∷ xs) - 1) xs (omega arith) in
+    ap (λ (b : Bool). letter x && b) (sym (all_same letter_or_digit xs) ∙ ap (list_all letter_or_digit) (sym rest))
 
 pub marked_empty : (m : ℕ) (s : List ℕ) → length s < 1 → marked m s ≡ false
 unfolding marked

@@ -19,9 +19,9 @@ use Rattle.lvs_spec.specs.Grammar as grammar
 use Rattle.lvs_spec.specs.Grammar.{Kind, meaning, order, step, final}
 use Rattle.lvs_spec.specs.WellFormed.{first_known, is_other_version, other_version}
 use Rattle.lvs_spec.specs.Places.{must, from, Placed, item, placed, leaf_fault, inside_fault, fault_from, fault_by}
-use Rattle.lvs_spec.proofs.Places.{placed_end, placed_malformed, placed_next, fault_optional, fault_critical, fault_known, fault_known_lem}
+use Rattle.lvs_spec.proofs.Places.{by_within, placed_end, placed_malformed, placed_next, fault_optional, fault_critical, fault_known, fault_known_lem}
 use Rattle.lvs_spec.proofs.Version.{first_optional, first_critical, first_known_lem}
-use Rattle.std.specs.Prelude.{Option as Answer, Some, None, Result, Ok, Err}
+use Rattle.std.specs.Prelude.{Option as Answer, Some, None, Result, Ok, Err, IfErr}
 use Rattle.lvs_grammar.specs.declared.faults.Fault.{Fault}
 use Rattle.lvs_grammar.specs.Faults.{fault_of}
 use Rattle.lvs_grammar.specs.declared.types.Kind as kinds
@@ -117,21 +117,22 @@ module _ (n : ℕ) (k : Kind) (q : ℕ) (s : List ℕ) (at : ℕ) {r : Read} (e 
         plain_on v = inside_on j held v
 
       module _ {q' : ℕ} (j : x ≡ Some q') {y : kinds.Kind} (u : w ≡ Container y) {o : Option ℕ}
-          (l : o ≡ fault_by n (kind_of y) (take (b - a) (drop a s))) where
-        entered : from a o ≡ inside_fault (fault_by n) k (known_of w) at a (take (b - a) (drop a s))
+          (l : o ≡ from a (fault_by n (kind_of y) (take (b - a) (drop a s)))) where
+        entered : o ≡ inside_fault (fault_by n) k (known_of w) at a (take (b - a) (drop a s))
         unfolding inside_fault
-        entered = rw u (ap (from a) l)
+        entered = rw u l
 
-        pub container_fault : {z : ℕ} → o ≡ some z → fault_after n k q s at ≡ some (a + z)
-        container_fault v = inside_fault_lem j entered (ap (from a) v)
+        pub container_fault : {z : ℕ} → o ≡ some z → fault_after n k q s at ≡ some z
+        container_fault v = inside_fault_lem j entered v
 
         pub container_on : o ≡ none → fault_after n k q s at ≡ fault_after n k q' s p.at
-        container_on v = inside_on j entered (ap (from a) v)
+        container_on v = inside_on j entered v
 
--- what is no fault is none
-pub no_fault : (r : Result (Unit {0}) Fault) → ((x : Fault) → r ≡ Err x → ⊥) → fault_of r ≡ none
-no_fault (Ok u) other = refl
-no_fault (Err x) other = absurd (other x refl)
+-- a fault in a part is one of the whole
+pub part_within : (most start d : ℕ) (k : Kind) (s : List ℕ) (r : Result (Unit {0}) Fault) → fault_of r ≡ fault_by d k s → start + length s ≤ most
+    → IfErr r (λ fault. start + fault.place ≤ most)
+part_within most start d k s (Ok u) e h = tt
+part_within most start d k s (Err x) e h = omega (arith, by_within d k s (sym e), h)
 
 -- a part of what is short is short
 pub part_short : (s : List ℕ) (a b most : ℕ) → a ≤ b → b ≤ length s → length s ≤ most → a + length (take (b - a) (drop a s)) ≤ most

@@ -1,5 +1,5 @@
 // Where the inside of a container is malformed first (docs/format.md, 5.3). Places are counted from its start.
-ghost use Rattle.std.specs.Prelude.{suc, ◌≤◌, ◌≡◌, length};
+ghost use Rattle.std.specs.Prelude.{◌+◌, IfErr, suc, ◌≤◌, ◌≡◌, length};
 ghost use Rattle.std.proofs.Math.Option.{some};
 ghost use Rattle.lvs_spec.specs.Limits.{max_model_bytes};
 ghost use Rattle.lvs_spec.specs.Places as places;
@@ -34,6 +34,18 @@ pub(crate) fn fault_at(place: usize) -> Result<(), Fault>
     })
 }
 
+// A place in an inside, counted from where that starts, from further out.
+#[inline(always)]
+fn counted_from(start: usize, found: Result<(), Fault>) -> Result<(), Fault>
+    requires { IfErr found (λ fault. start + fault.place ≤ max_model_bytes) }
+    ensures { fault_of result ≡ places.from start (fault_of found) }
+{
+    match found {
+        Ok(()) => Ok(()),
+        Err(fault) => fault_at(start + fault.place as usize),
+    }
+}
+
 // Whether there is no fault in the whole inside of a container of this kind, read to at most this depth; else the first.
 #[cycle(fault_in_first_fault)]
 pub(crate) fn fault_in(s: &[u8], kind: Kind, depth: u8) -> Result<(), Fault>
@@ -47,7 +59,8 @@ pub(crate) fn fault_in(s: &[u8], kind: Kind, depth: u8) -> Result<(), Fault>
 }
 
 // The same, where the containers in it are read to at most the depth `below`. Plain elements and containers are told apart here and not in a
-// function of its own, because that takes fewer instructions.
+// function of its own, because that takes fewer instructions. The loop needs the elements' places, and the end of the bytes told from bytes that no
+// element begins with, which an iterator does not give.
 #[cycle(fault_in_first_fault)]
 fn first_fault(s: &[u8], kind: Kind, below: u8) -> Result<(), Fault>
     requires { length s.now ≤ max_model_bytes }
@@ -78,11 +91,10 @@ fn first_fault(s: &[u8], kind: Kind, below: u8) -> Result<(), Fault>
                         let inside = &s[start..end];
                         match known {
                             Known::Plain(leaf) => leaf_fault(inside, at, start, kind, leaf)?,
-                            Known::Container(inner) => {
-                                if let Err(fault) = fault_in(inside, inner, below) {
-                                    return fault_at(start + fault.place as usize);
-                                }
-                            }
+                            Known::Container(inner) => counted_from(
+                                start,
+                                fault_in(inside, inner, below),
+                            )?,
                         }
                     }
                 }

@@ -89,7 +89,8 @@ fn header(name: &[u8]) -> Option<usize>
     }
 }
 
-// How many components stand from a place of a name on, up to its end.
+// How many components stand from a place of a name on, up to its end. By places and not by an iterator, which does not tell the end of the bytes
+// from bytes that no element begins with.
 fn count(name: &[u8], from: usize) -> Option<usize>
     ensures { result ≡ count_of name.now from }
 {
@@ -182,7 +183,7 @@ pub fn compare(s: &[u8], c: Component) -> Compared
 }
 
 // Whether `s` begins with the header of `c`. Numbers have only one form, so that bytes are compared; nearly all headers have two, the length being
-// the second.
+// the second. It is compared first, since it differs most often.
 fn same_header(s: &[u8], c: &[u8], header: usize) -> bool
     requires { Headed s.now c.now header }
     ensures { result ≡ same_bytes (take header s.now) (take header c.now) }

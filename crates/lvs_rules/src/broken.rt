@@ -4,7 +4,7 @@ ghost use Rattle.lvs_rules.specs.Broken.{number};
 
 use lvs_spec::refusal::Rule;
 
-// Whether the first is lower. None is above every rule.
+// Whether the first is lower. None is above every rule, where the order that Option derives has it first.
 #[inline(always)]
 pub(crate) fn is_lower(a: Option<Rule>, b: Option<Rule>) -> bool
     ensures { result ≡ ltb (number a) (number b) }

@@ -11,7 +11,7 @@ use lvs_spec::refusal::Rule;
 use lvs_spec::types::{NODE_ID, PATTERN_EDGE, VALUE_EDGE};
 use tlv::Elements;
 
-// The lowest of these rules that the edges of the Node with index `i` break.
+// The lowest of these rules that the edges of the Node with index `i` break. `seen` has room for each Node of a model: nothing is allocated.
 pub(crate) fn destinations_rule(node: &[u8], i: u32, parents: &[Option<u32>]) -> Option<Rule>
     requires { length parents.now ≤ max_nodes }
     ensures { number result ≡ destinations_rule parents.now i (destinations (node_of node.now)) }

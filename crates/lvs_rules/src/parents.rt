@@ -12,7 +12,7 @@ use lvs_spec::refusal::Rule;
 use lvs_spec::types::{NODE, PARENT};
 use tlv::Elements;
 
-// Each Node's Parent, if it has one, by the Node's index.
+// Each Node's Parent, if it has one, by the Node's index. An array for as many Nodes as a model may have: nothing is allocated.
 pub(crate) fn parents_of(model: &[u8]) -> [Option<u32>; lvs_spec::MAX_NODES]
     requires { length (insides type.Node model.now) ≤ max_nodes }
     ensures { take (length (insides type.Node model.now)) result ≡

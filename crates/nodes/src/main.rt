@@ -13,17 +13,16 @@ use std::fmt::Display;
 use std::io::Read as _;
 use std::{fmt, io};
 use tlv::Read;
-use tlv_reader::Count;
 
 /// A number, or the word in its place.
 #[derive(Clone, Copy)]
-struct Shown(Count);
+struct Shown(Option<usize>);
 
 impl Display for Shown {
     fn fmt<W: fmt::Write>(&self, f: &mut fmt::Formatter<W>) -> fmt::Result {
         match self.0 {
-            Count::Elements(n) => write!(f, "{n}"),
-            Count::Malformed => write!(f, "malformed"),
+            Some(n) => write!(f, "{n}"),
+            None => write!(f, "malformed"),
         }
     }
 }
@@ -52,7 +51,7 @@ fn read_all<'a, R: io::Read + Drop>(mut input: R, space: &'a mut [u8]) -> &'a [u
 }
 
 /// Of an accepted model, the number that the verdict gives (proofs/Accepted.antt).
-fn count_nodes(model: &[u8]) -> Count
+fn count_nodes(model: &[u8]) -> Option<usize>
     ensures { result ≡ count_of Node model.now }
 {
     tlv_reader::count_of_type(model, types::NODE)

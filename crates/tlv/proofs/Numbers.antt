@@ -81,7 +81,8 @@ width_size b = go (eqb b 253) (eqb b 254)
 
 -- what was read of the bytes that such a first byte announces
 module _ (s : List ℕ) (from b : ℕ) {next : ℕ} {c : List ℕ} {r : Option ℕ}
-    (cut : (from ≤ next) × (next ≤ length s) × (c ≡ slice_range s from next) × (length c + from ≡ next)) (e : r ≡ integer_of c) (w : next ≡ from + width b) where
+    (cut : (from ≤ next) × (next ≤ length s) × (c ≡ slice_range s from next) × (length c + from ≡ next))
+    (e : r ≡ integer_of c) (w : next ≡ from + width b) where
   pub width_read : r ≡ Some (big_endian (take (width b) (drop from s)))
   unfolding integer_of integer
   width_read =

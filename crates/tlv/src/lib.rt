@@ -1,8 +1,8 @@
 // NDN's elements: a type, a length and that many bytes, read at a place of a slice and never copied.
 #![tactic(auto)]
 
-ghost use Rattle.std.specs.Prelude.{◌≡◌, ◌≤◌, length};
-ghost use Rattle.tlv.specs.Bytes.{same_bytes, big_endian};
+ghost use Rattle.std.specs.Prelude.{◌≡◌};
+ghost use Rattle.tlv.specs.Bytes.{same_bytes};
 ghost use Rattle.tlv.specs.Number.{width, least};
 ghost use Rattle.tlv.specs.Fields.{elements, the_inside, number_of, the_integer};
 ghost use Rattle.tlv.specs.Answers.{number_at, read_at, integer_of, elements_left};

@@ -13,7 +13,7 @@ use Rattle.tlv.specs.Fields.{insides}
 use Rattle.tlv.specs.declared.Place.{Place}
 use Rattle.tlv.proofs.Cuts.{Step, split_end, split_broken, split_next}
 use Rattle.tlv.proofs.Gathered.{Stop, insides_found, insides_other, insides_stop, insides_most, Gathered, counted, started, took, passed, ended, one_left}
-use Rattle.tlv_reader.specs.declared.Count.TheVariants.{Elements, Malformed}
+use Rattle.std.specs.declared.option.Option.TheVariants.{Some, None}
 use Rattle.tlv_reader.specs.Count.{count_of}
 
 -- n elements of type t stand before `at`, and the rest is elements and nothing else where the whole is
@@ -42,13 +42,13 @@ module _ {s : List ℕ} {t at n : ℕ} (c : Counted s t at n) where
     pub no_more : (kind ≡ t → ⊥) → Counted s t p.at n
     no_more e = record { before = passed c.before (insides_other t st e); rest = rest_later }
 
-  pub counted_end : cuts (drop at s) ≡ done → Elements n ≡ count_of t s
+  pub counted_end : cuts (drop at s) ≡ done → Some n ≡ count_of t s
   unfolding count_of
   counted_end e =
       let w : is_some (split s) ≡ true = sym c.rest ∙ ap is_some (split_end (drop at s) e) in
       let stop : Stop s at = record { cut_is = inl e } in
-      rw w (ap Elements (ended c.before (insides_stop t stop)))
+      rw w (ap Some (ended c.before (insides_stop t stop)))
 
-  pub counted_broken : cuts (drop at s) ≡ broken → Malformed ≡ count_of t s
+  pub counted_broken : cuts (drop at s) ≡ broken → None ≡ count_of t s
   unfolding count_of
   counted_broken e = let w : is_some (split s) ≡ false = sym c.rest ∙ ap is_some (split_broken (drop at s) e) in rw w

@@ -16,13 +16,6 @@ pub struct Reader<'a> {
     pub at: usize,
 }
 
-// How many elements of a type there are, where the bytes are elements and nothing else.
-#[derive(Clone, Copy)]
-pub enum Count {
-    Elements(usize),
-    Malformed,
-}
-
 impl<'a> Reader<'a> {
     pub fn new(src: &'a [u8], at: usize) -> Reader<'a>
         ensures { (result.src ≡ src.entry) × (result.at ≡ at) }
@@ -67,31 +60,23 @@ pub fn inside_from<'a>(s: &'a [u8], at: usize) -> &'a [u8]
     reader.src
 }
 
-// How many elements of type `typ` the bytes are made of. An inside is not looked into.
-pub fn count_of_type(s: &[u8], typ: u32) -> Count
+// How many elements of type `typ` the bytes are made of, where they are elements and nothing else. An inside is not looked into. It tells the end
+// from what is malformed, which an iteration does not.
+pub fn count_of_type(s: &[u8], typ: u32) -> Option<usize>
     ensures { result ≡ count_of typ s.now }
 {
     let mut at = 0;
     let mut n = 0;
     loop {
         match element_from(s, at) {
-            Read::Found {
-                typ: t,
-                start: _,
-                end: _,
-                next,
-            } => {
+            Read::Found { typ: t, next, .. } => {
                 at = next.at;
                 if t == typ {
                     n += 1;
                 }
             }
-            Read::End => {
-                return Count::Elements(n);
-            }
-            Read::Malformed => {
-                return Count::Malformed;
-            }
+            Read::End => return Some(n),
+            Read::Malformed => return None,
         }
     }
 }
@@ -108,12 +93,7 @@ fn place_after(read: Read, at: usize) -> usize
     ensures { result ≡ place_after read at }
 {
     match read {
-        Read::Found {
-            typ: _,
-            start: _,
-            end: _,
-            next,
-        } => next.at,
+        Read::Found { next, .. } => next.at,
         Read::End => at,
         Read::Malformed => at,
     }
@@ -123,12 +103,7 @@ fn inside_at<'a>(src: &'a [u8], at: usize) -> &'a [u8]
     ensures { result.now ≡ inside_at src.now at }
 {
     match element_at(src, at) {
-        Read::Found {
-            typ: _,
-            start,
-            end,
-            next: _,
-        } => &src[start..end],
+        Read::Found { start, end, .. } => &src[start..end],
         Read::End => &src[..0],
         Read::Malformed => &src[..0],
     }

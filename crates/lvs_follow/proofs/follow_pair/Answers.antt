@@ -30,11 +30,13 @@ pub returns-in_default-key : goal.returns-in_default-key
 returns-in_default-key c =
     let a = c.args in
     key_nowhere (model_of a.nodes.now.model.now) a.names.packet.now a.names.key.now a.path.now a.rows.packet a.rows.key
-    c.requires.good.packet_row.count c.new-slots.ensures c.follow_name-packet.ensures c.in-Some.is (to_end a.path.now a.rows.packet.count) c.follow_name-key.ensures c.in_default-key.is
+    c.requires.good.packet_row.count c.new-slots.ensures c.follow_name-packet.ensures c.in-Some.is
+    (to_end a.path.now a.rows.packet.count) c.follow_name-key.ensures c.in_default-key.is
 
 pub returns : goal.returns
 returns c =
     let a = c.args in
     arrives (model_of a.nodes.now.model.now) a.names.packet.now a.names.key.now a.path.now a.rows.packet a.rows.key
-    c.requires.good.packet_row.count c.new-slots.ensures c.follow_name-packet.ensures c.in-Some.is (to_end a.path.now a.rows.packet.count) c.follow_name-key.ensures c.in-Some-key.is
+    c.requires.good.packet_row.count c.new-slots.ensures c.follow_name-packet.ensures c.in-Some.is
+    (to_end a.path.now a.rows.packet.count) c.follow_name-key.ensures c.in-Some-key.is
     c.lists.ensures

@@ -12,7 +12,8 @@ pub returns-in_err-edge : goal.returns-in_err-edge
 returns-in_err-edge c =
     let x = c.args.context in
     let named = subst (λ n. OnlyNamed n (bindings_of x.names.packet.now x.names.key.now c.args.slots.now.spans)) x.count c.requires.only_named in
-    rw c.from_residual.ensures (step_none _ _ _ _ _ _ _ named (nth_none c.args.ordinal c.nth.result c.nth.new.self c.edges.ensures.left c.nth.ensures.ran c.in_err-edge.was))
+    rw c.from_residual.ensures
+    (step_none _ _ _ _ _ _ _ named (nth_none c.args.ordinal c.nth.result c.nth.new.self c.edges.ensures.left c.nth.ensures.ran c.in_err-edge.was))
 
 pub returns-in-Value : goal.returns-in-Value
 returns-in-Value c =

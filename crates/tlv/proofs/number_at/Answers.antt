@@ -20,7 +20,8 @@ returns-in_err-get c =
 
 pub returns-in_err-value : goal.returns-in_err-value
 returns-in_err-value c =
-    absurd (width_there _ _ (get_or c.args.s.now c.args.at 0) c.in_ok-get.ensures.lookup.0 c.integer_of.ensures (ap (λ w. c.args.at + 1 + w) c.width_of.ensures) c.in_err-value.was)
+    absurd (width_there _ _ (get_or c.args.s.now c.args.at 0) c.in_ok-get.ensures.lookup.0 c.integer_of.ensures
+    (ap (λ w. c.args.at + 1 + w) c.width_of.ensures) c.in_err-value.was)
 
 pub returns-then-value-least_of : goal.returns-then-value-least_of
 returns-then-value-least_of c =

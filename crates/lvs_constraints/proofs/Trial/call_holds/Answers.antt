@@ -32,12 +32,14 @@ returns-in-None-argument-2 c =
 pub returns-in-Some-IsValidId : goal.returns-in-Some-IsValidId
 returns-in-Some-IsValidId c =
     ap (λ n. n == 6) c.value_size.ensures
-    ∙ sym (call_id _ _ _ c.inside_of.ensures c.inside_of-argument.ensures c.function_of.ensures (c.in-Some-IsValidId.is ∙ ap Some c.in-Some-IsValidId.field-0-is))
+    ∙ sym (call_id _ _ _ c.inside_of.ensures c.inside_of-argument.ensures c.function_of.ensures
+    (c.in-Some-IsValidId.is ∙ ap Some c.in-Some-IsValidId.field-0-is))
 
 pub returns-in-Some-IsValidYear : goal.returns-in-Some-IsValidYear
 returns-in-Some-IsValidYear c =
     ap (λ n. n == 4) c.value_size-in-Some-IsValidYear.ensures
-    ∙ sym (call_year _ _ _ c.inside_of.ensures c.inside_of-argument.ensures c.function_of.ensures (c.in-Some-IsValidYear.is ∙ ap Some c.in-Some-IsValidYear.field-0-is))
+    ∙ sym (call_year _ _ _ c.inside_of.ensures c.inside_of-argument.ensures c.function_of.ensures
+    (c.in-Some-IsValidYear.is ∙ ap Some c.in-Some-IsValidYear.field-0-is))
 
 pub returns-in-None : goal.returns-in-None
 returns-in-None c = sym (call_unknown _ _ _ c.inside_of.ensures c.inside_of-argument.ensures c.function_of.ensures c.in-None.is)

@@ -2,10 +2,10 @@
 use Rattle.std.proofs.Common.{◌∙◌, sym, ap, arith}
 use Rattle.std.proofs.lemmas.Result.{err_from_is_err_and}
 use Rattle.tlv.proofs.Cuts.{seen}
-use Rattle.lvs_spec.proofs.Places.{by_within}
+use Rattle.lvs_spec.specs.Places.{from}
 use Rattle.lvs_grammar.specs.Faults.{fault_of}
 use Rattle.lvs_grammar.proofs.Turns.{fault_deep, fault_below, fault_start, fault_end, fault_broken, fault_skips, fault_at_critical}
-use Rattle.lvs_grammar.proofs.Turns.{fault_refused, plain_fault, plain_on, container_fault, container_on, part_short, no_fault}
+use Rattle.lvs_grammar.proofs.Turns.{fault_refused, plain_fault, plain_on, container_fault, container_on, part_short, part_within}
 use Rattle.lvs_grammar.proofs.faults.+fault_in_first_fault.Goals as goal
 
 pub fault_in-returns-then-depth-eq0 : goal.fault_in-returns-then-depth-eq0
@@ -102,22 +102,18 @@ first_fault-fault_in-requires t c =
     let f = seen _ _ c.element.ensures c.in-Found.is in
     (omega (arith, c.decreases), omega (arith, part_short _ _ _ _ f.order f.within c.requires))
 
-pub first_fault-overflow_add-start : goal.first_fault-overflow_add-start
-first_fault-overflow_add-start t c =
+pub first_fault-counted_from-requires : goal.first_fault-counted_from-requires
+first_fault-counted_from-requires t c =
     let f = seen _ _ c.element.ensures c.in-Found.is in
-    omega (arith, f, part_short _ _ _ _ f.order f.within c.requires, by_within _ _ _ (sym c.fault_in.ensures ∙ ap fault_of c.in-Err.is))
+    part_within _ _ _ _ _ _ c.fault_in.ensures (part_short _ _ _ _ f.order f.within c.requires)
 
-pub first_fault-fault_at-requires-in-Err : goal.first_fault-fault_at-requires-in-Err
-first_fault-fault_at-requires-in-Err t c =
-    let f = seen _ _ c.element.ensures c.in-Found.is in
-    omega (arith, part_short _ _ _ _ f.order f.within c.requires, by_within _ _ _ (sym c.fault_in.ensures ∙ ap fault_of c.in-Err.is))
-
-pub first_fault-returns-in-Err : goal.first_fault-returns-in-Err
-first_fault-returns-in-Err t c =
-    c.fault_at-in-Err.ensures
-    ∙ sym (c.loop-typ.invariant.0
+pub first_fault-returns-in_err-counted_from-in-Container : goal.first_fault-returns-in_err-counted_from-in-Container
+first_fault-returns-in_err-counted_from-in-Container t c =
+    let p = err_from_is_err_and c.from_residual-in_err-counted_from-in-Container.result c.from_residual-in_err-counted_from-in-Container.ensures.1 in
+    rw (p.1, p.2)
+    (sym (c.loop-typ.invariant.0
     ∙ container_fault _ _ _ _ _ c.element.ensures c.in-Found.is _ c.meaning_of.ensures c.in-Known.is _ c.next_state.ensures c.in-Some.is c.in-Container.is
-    c.fault_in.ensures (ap fault_of c.in-Err.is))
+    (c.counted_from.ensures ∙ ap (from c.in-Found.start) c.fault_in.ensures) (ap fault_of c.in_err-counted_from-in-Container.was)))
 
 pub first_fault-loop-typ-smaller : goal.first_fault-loop-typ-smaller
 first_fault-loop-typ-smaller t c = omega (arith, seen _ _ c.element.ensures c.in-Found.is)
@@ -126,6 +122,6 @@ pub first_fault-loop-typ-preserved : goal.first_fault-loop-typ-preserved
 first_fault-loop-typ-preserved t c = (
   c.loop-typ.invariant.0
       ∙ container_on _ _ _ _ _ c.element.ensures c.in-Found.is _ c.meaning_of.ensures c.in-Known.is _ c.next_state.ensures c.in-Some.is c.in-Container.is
-      c.fault_in.ensures (no_fault _ c.in_default-fault_in.not-Err),
+      (c.counted_from.ensures ∙ ap (from c.in-Found.start) c.fault_in.ensures) (ap fault_of c.in_ok-counted_from-in-Container.was),
   omega (arith, seen _ _ c.element.ensures c.in-Found.is),
 )

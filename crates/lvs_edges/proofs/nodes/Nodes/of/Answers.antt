@@ -6,7 +6,8 @@ use Rattle.lvs_edges.proofs.nodes.Nodes.of.Goals as goal
 
 pub loop-e-init : goal.loop-e-init
 loop-e-init c =
-    filled_first _ refl (none_read 256 (record { ref_ptr = (0, 0); now = [] }) refl) (ap elements_left c.into_iter-e-iterator.ensures.into_iter_gives ∙ c.of-e-items.ensures.left)
+    filled_first _ refl (none_read 256 (record { ref_ptr = (0, 0); now = [] }) refl)
+    (ap elements_left c.into_iter-e-iterator.ensures.into_iter_gives ∙ c.of-e-items.ensures.left)
 
 pub bounds-bodies-n : goal.bounds-bodies-n
 bounds-bodies-n c = omega (arith, more c.loop-e.invariant c.in-Some.ensures.steps c.if-e-eq-NODE.true, c.requires.few)
