@@ -26,21 +26,6 @@ module _ (s : List ℕ) (at : ℕ) {r : Read} (e : r ≡ read_at s at) where
   unfolding inside_at
   inside_malformed f = sym (ap inside_from (first_seen s at e f))
 
--- ---- the place after
-
-module _ (at : ℕ) {r : Read} where
-  pub after_found : {typ start stop : ℕ} {n : Place} → r ≡ Found typ start stop n → n.at ≡ place_after r at
-  unfolding place_after
-  after_found f = sym (ap (λ (r : Read). place_after r at) f)
-
-  pub after_end : r ≡ End → at ≡ place_after r at
-  unfolding place_after
-  after_end f = sym (ap (λ (r : Read). place_after r at) f)
-
-  pub after_malformed : r ≡ Malformed → at ≡ place_after r at
-  unfolding place_after
-  after_malformed f = sym (ap (λ (r : Read). place_after r at) f)
-
 -- the reader at the place after what was read is the one moved
 pub moved_is : (d : Reader) {r : Read} {n : ℕ} → r ≡ read_at d.src.now d.at → n ≡ place_after r d.at → record { src = d.src; at = n } ≡ moved d
 unfolding moved

@@ -89,6 +89,7 @@ fn element_at(src: &[u8], at: usize) -> Read
 }
 
 // The place after what was read at `at`.
+#[tactic(auto, unfolding(crate::specs::Methods::place_after))]
 fn place_after(read: Read, at: usize) -> usize
     ensures { result ≡ place_after read at }
 {
