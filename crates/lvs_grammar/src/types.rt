@@ -29,12 +29,14 @@ pub enum Leaf {
     FunctionId,
 }
 
+// What an element of a known type has inside: two cases with a value of their own each, and so no Option.
 #[derive(Clone, Copy)]
 pub enum Known {
     Plain(Leaf),
     Container(Kind),
 }
 
+// What a type means; three cases.
 #[derive(Clone, Copy)]
 pub enum Meaning {
     Optional,

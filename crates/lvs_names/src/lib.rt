@@ -1,6 +1,6 @@
 // Names and their components (docs/format.md, 6), read at their places and never copied.
 //
-// A layer below the public calls: any bytes may be a name. `requires` asks for a component that is cut out.
+// A layer below the public calls: any bytes may be a name, and a `Component` is one that is cut out.
 #![tactic(auto)]
 
 mod parts;

@@ -12,7 +12,7 @@ use lvs_spec::types;
 use std::fmt::Display;
 use std::io::Read as _;
 use std::{fmt, io};
-use tlv::Read;
+use tlv::Elements;
 
 /// A number, or the word in its place.
 #[derive(Clone, Copy)]
@@ -58,12 +58,10 @@ fn count_nodes(model: &[u8]) -> Option<usize>
 }
 
 fn print_nodes<P: Print>(rt: &P, model: &[u8]) {
-    let mut at = 0;
-    while let Read::Found { typ, next, .. } = tlv_reader::element_from(model, at) {
-        if typ == types::NODE {
-            print_node(rt, tlv_reader::inside_from(model, at));
+    for element in Elements::of(model) {
+        if element.typ == types::NODE {
+            print_node(rt, element.inside);
         }
-        at = next.at;
     }
 }
 

@@ -13,7 +13,7 @@ pub struct Place {
     pub at: usize,
 }
 
-// What stands at a place.
+// What stands at a place. No Option: a caller that refuses must tell the end from what cannot be cut.
 #[derive(Clone, Copy)]
 pub enum Read {
     // An element: its inside is the part from start to end, and next is the place after it.
