@@ -39,9 +39,7 @@ impl<R: Read, W: Write> Driver<R, W> {
         let name = self.input.field(&mut name)?;
         let words = self.input.numbers(&mut words)?;
         match lvs::match_name(model, name, words) {
-            Ok(Some(Match { node, bound })) => self
-                .out
-                .put(format_args!("match {node} {bound}")),
+            Ok(Some(Match { node, bound })) => self.out.put(format_args!("match {node} {bound}")),
             Ok(None) => self.out.put("no match"),
             Err(refusal) => self.put_refused(refusal),
         }
@@ -60,9 +58,7 @@ impl<R: Read, W: Write> Driver<R, W> {
         let words = self.input.numbers(&mut words)?;
         let path = self.input.numbers(&mut path)?;
         match lvs::sign(model, packet, key, words, path) {
-            Ok(Some(Pair { packet, key })) => self
-                .out
-                .put(format_args!("allowed {packet} {key}")),
+            Ok(Some(Pair { packet, key })) => self.out.put(format_args!("allowed {packet} {key}")),
             Ok(None) => self.out.put("not allowed"),
             Err(refusal) => self.put_refused(refusal),
         }
@@ -94,9 +90,7 @@ impl<R: Read, W: Write> Driver<R, W> {
         let packet = self.input.field(&mut packet)?;
         let list = self.input.field(list)?;
         match lvs::suggest(model, packet, list) {
-            Ok(Some(index)) => self
-                .out
-                .put(format_args!("certificate {index}")),
+            Ok(Some(index)) => self.out.put(format_args!("certificate {index}")),
             Ok(None) => self.out.put("none"),
             Err(refusal) => self.put_refused(refusal),
         }
@@ -158,8 +152,7 @@ impl<R: Read, W: Write> Driver<R, W> {
     }
 
     fn put_refused(&mut self, refusal: Refusal) {
-        self.out
-            .put(format_args!("refused {} {}", refusal.number(), refusal.at()));
+        self.out.put(format_args!("refused {} {}", refusal.number(), refusal.at()));
     }
 }
 
