@@ -4,21 +4,33 @@ use mathlib.Core.Path.{◌≡◌, refl, sym, ap, ◌∙◌}
 use mathlib.Core.List.{List}
 use mathlib.Core.Option.{none, some}
 use native.Mathlib.Omega.{arith}
-use borrow.Author.Tests.{lt-ltb, le-ltb, le-leb, leb-true, leb-false}
+use borrow.Author.Tests.{lt-ltb, le-ltb, ltb-true, ltb-false, le-leb, leb-true, leb-false}
 use Rattle.std.proofs.Common.{nat_le}
 use mathlib.Core.Bool.{Bool, true, false}
+use lib.Dec.{ltb}
+use Rattle.lvs_spec.proofs.Lists.{clash}
 use lib.ListN.{length, get_or, set, take, drop, length-drop, get_or-map, get_or-eq_default, drop_of_length-le}
 use lib.Seq.{take_all, set_out, set-set, set-get_or}
 use Rattle.std.proofs.lemmas.List.{map-set}
+use Rattle.std.proofs.lemmas.Option.{cond_some}
 use Rattle.std.specs.declared.option.Option.{Option}
 use Rattle.std.specs.declared.option.Option.TheVariants.{None, Some}
 use Rattle.lvs_spec.specs.Limits.{max_tag}
 use Rattle.lvs_spec.specs.Walk.{Bindings, no_bindings, bound, bind_tag}
 use Rattle.lvs_bindings.specs.Names.{text_from}
-use Rattle.lvs_bindings.specs.Slots.{clear, IndexOf, binding_at, binding, bindings_of, slot_at, bound_slots, cleared_slots, without}
+use Rattle.lvs_bindings.specs.Slots.{clear, IndexOf, binding_at, binding, bindings_of, slot_at, bound_tag, bound_slots, cleared_slots, without}
 use Rattle.lvs_bindings.specs.declared.Span.{Span}
 
 -- ---- where a Tag's span is
+
+pub tag_none : (tag : ℕ) → IndexOf tag None → bound_tag tag ≡ None
+unfolding bound_tag
+tag_none zero h = refl
+tag_none (suc i) h = rw (le-ltb i max_tag (omega (arith, h))) refl
+
+pub tag_some : (tag i : ℕ) → IndexOf tag (Some i) → bound_tag tag ≡ Some tag
+unfolding bound_tag
+tag_some tag i h = rw h.0 (rw (lt-ltb i max_tag h.1) refl)
 
 module _ (slots : List (Option Span)) (all : length slots ≡ max_tag) where
   pub slot_none : (tag : ℕ) → IndexOf tag None → slot_at slots tag ≡ None
@@ -47,6 +59,24 @@ module _ (slots : List (Option Span)) (all : length slots ≡ max_tag) where
   pub clear_some : (tag i : ℕ) → IndexOf tag (Some i) → cleared_slots tag slots ≡ set slots i None
   unfolding cleared_slots
   clear_some tag i h = rw h.0 refl
+
+-- a Tag that binding binds is the Tag itself, and in range
+pub tag_bound : (tag : ℕ) {t : ℕ} → bound_tag tag ≡ Some t → (t ≡ tag) × ((0 < t) × (t ≤ max_tag))
+unfolding bound_tag
+tag_bound zero e = clash (cc)
+tag_bound (suc i) {t} e =
+    let (low, same) = cond_some (ltb i max_tag) (suc i) t e in
+    (sym same, (omega (arith, same), omega (arith, same, ltb-true i max_tag low)))
+
+-- one that it does not bind changes nothing
+pub tag_unbound : (tag : ℕ) (s : Span) {slots : List (Option Span)} → length slots ≡ max_tag → bound_tag tag ≡ None → bound_slots tag s slots ≡ slots
+unfolding bound_tag bound_slots
+tag_unbound zero s l e = refl
+tag_unbound (suc i) s {slots} l e = go (ltb i max_tag) refl
+  where
+    go : (u : Bool) → ltb i max_tag ≡ u → set slots i (Some s) ≡ slots
+    go true q = clash (let g = rw q at e in cc)
+    go false q = set_out slots i (Some s) (omega (arith, l, ltb-false i max_tag q))
 
 -- ---- what a Tag is bound to
 

@@ -50,6 +50,11 @@ unfoldable pub slot_at : List (Option Span) → ℕ → Option Span
 slot_at slots zero = None
 slot_at slots (suc i) = get_or slots i None
 
+-- the Tag that binding it binds: one that is out of range has no binding
+unfoldable pub bound_tag : ℕ → Option ℕ
+bound_tag zero = None
+bound_tag (suc i) = cond (ltb i max_tag) (Some (suc i)) None
+
 -- a Tag bound; one that is out of range is not
 unfoldable pub bound_slots : ℕ → Span → List (Option Span) → List (Option Span)
 bound_slots zero s slots = slots

@@ -34,7 +34,7 @@ pub const KEY_ORIGIN: u32 = 2;
 impl Slots {
     ghost use Rattle.std.specs.Prelude.{◌≤◌};
     ghost use Rattle.lvs_spec.specs.Limits.{binding_words};
-    ghost use Rattle.lvs_bindings.specs.Slots.{clear, slot_at, bound_slots, cleared_slots, Wrote};
+    ghost use Rattle.lvs_bindings.specs.Slots.{clear, slot_at, bound_tag, bound_slots, cleared_slots, Wrote};
 
     // No Tag is bound.
     pub fn new() -> Slots
@@ -52,13 +52,16 @@ impl Slots {
         self.spans[slot_index(tag)?]
     }
 
-    // Binds a Tag, where there is such a one.
-    pub fn bind(&mut self, tag: u64, span: Span)
-        ensures { self.new.spans ≡ bound_slots tag span self.old.spans }
+    // Binds a Tag, and answers it; where there is no such Tag, nothing is bound.
+    pub fn bind(&mut self, tag: u64, span: Span) -> Option<u64>
+        ensures tag { result ≡ bound_tag tag }
+        ensures spans { self.new.spans ≡ bound_slots tag span self.old.spans }
     {
-        if let Some(i) = slot_index(tag) {
-            self.spans[i] = Some(span);
-        }
+        let Some(i) = slot_index(tag) else {
+            return None;
+        };
+        self.spans[i] = Some(span);
+        Some(tag)
     }
 
     // Unbinds a Tag.

@@ -102,6 +102,7 @@ impl<'a> Trial<'a> {
     }
 
     // Whether every Constraint of a PatternEdge holds; `s` is the edge, or a part of it with all its Constraints.
+    #[inline(never)]
     pub fn constraints_hold(&self, s: &'a [u8]) -> bool
         ensures { result ≡ all (constraint_holds (bindings self.now) (content self.now)) (pattern_edge_of s.now).constraints }
     {

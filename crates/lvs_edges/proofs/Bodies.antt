@@ -1,11 +1,11 @@
--- A Node's body: the part of it where its edges and signers are. Assumes nothing.
-use Prim.Native.Nat.{ℕ, ◌-◌, ◌≤◌}
+-- A Node's body: the part of the model where its edges and signers are. Assumes nothing.
+use Prim.Native.Nat.{ℕ, ◌+◌, ◌-◌, ◌≤◌}
 use mathlib.Core.Path.{◌≡◌, refl, sym, ap, ◌∙◌}
 use mathlib.Core.Bool.{Bool, true, false}
 use mathlib.Core.List.{List, [], map}
 use native.Mathlib.Omega.{arith}
 use lib.ListN.{length, take, drop, get_or, length-drop, get_or-eq_default, get_or-map}
-use Rattle.lvs_bindings.proofs.Bound.{to_end}
+use lib.Seq.{take-add, drop_at, drop-drop, length-take-le}
 use Rattle.tlv.specs.Number.{integer}
 use Rattle.tlv.specs.Fields.{each_cut, insides, integers, the_inside, the_integer, number_of}
 use Rattle.tlv.specs.declared.Place.{Place}
@@ -14,7 +14,8 @@ use Rattle.tlv.proofs.Gathered.{each_none, insides_other}
 use Rattle.lvs_spec.specs.Types as type
 use Rattle.lvs_spec.specs.Model.{Node, no_node, node_at, node_of, model_of, edges}
 use Rattle.lvs_edges.specs.Edges.{edge_from, file_edges}
-use Rattle.lvs_edges.specs.Nodes.{node_inside, Walkable, in_body, BodyFrom}
+use Rattle.lvs_edges.specs.Nodes.{node_inside, Walkable, in_body, BodyFrom, LiesIn, part_of, nowhere}
+use Rattle.lvs_edges.specs.declared.body.Body.{Body}
 use Rattle.lvs_edges.proofs.Listed.{from_other}
 use Rattle.lvs_edges.proofs.Few.{inside_within, edges_few}
 
@@ -57,30 +58,47 @@ pub node_edges_few : (model : List ℕ) → Walkable model → (v : ℕ) → len
 unfolding node_inside
 node_edges_few model W v = omega (arith, ap length (edges_of W v), edges_few (node_inside model v), inside_within type.Node model v)
 
--- ---- a Node's body, as it was read
+-- ---- the part of the model
 
 -- b is the body of the Node v
-pub record Body (model : List ℕ) (v : ℕ) (b : List ℕ) : Type 0 where
-  pub edges_are : file_edges b ≡ edges (node_at (model_of model) v)
-  pub signers_are : integers type.SignConstraint b ≡ (node_at (model_of model) v).signers
-  pub short : length b ≤ length model
+pub record BodyPart (model : List ℕ) (v : ℕ) (b : Body) : Type 0 where
+  pub lies : LiesIn model b
+  pub edges_are : file_edges (part_of model b) ≡ edges (node_at (model_of model) v)
+  pub signers_are : integers type.SignConstraint (part_of model b) ≡ (node_at (model_of model) v).signers
+  pub short : length (part_of model b) ≤ length model
 
-pub body_read : {model x : List ℕ} {v k : ℕ} → Walkable model → node_inside model v ≡ x → BodyFrom x k → Body model v (take (length x - k) (drop k x))
-unfolding integers node_inside
-body_read {model} {x} {v} {k} W p B =
-    let q = to_end x k in
+drop-take : (k n : ℕ) (l : List ℕ) → k ≤ length l → drop k (take (k + n) l) ≡ take n (drop k l)
+drop-take k n l h = rw (take-add k n l) (drop_at (take k l) (take n (drop k l)) k (length-take-le k l h))
+
+-- from a Node's body on to its end
+pub body_part : {model : List ℕ} {v start stop k : ℕ} → Walkable model → start ≤ stop → stop ≤ length model
+    → node_inside model v ≡ take (stop - start) (drop start model) → BodyFrom (take (stop - start) (drop start model)) k
+    → BodyPart model v (record { start = start + k; end = stop })
+unfolding integers
+body_part {model} {v} {start} {stop} {k} W order within p B =
+    let d : length (drop start model) ≡ length model - start = length-drop start model in
+    let l : length (take (stop - start) (drop start model)) ≡ stop - start = length-take-le (stop - start) (drop start model) (omega arith) in
+    let w : k ≤ stop - start = omega (arith, B.within) in
+    let n : k + (stop - (start + k)) ≡ stop - start = omega arith in
+    let q : drop k (take (stop - start) (drop start model)) ≡ take (stop - (start + k)) (drop (start + k) model) =
+    ap (λ (x : ℕ). drop k (take x (drop start model))) (sym n) ∙ drop-take k (stop - (start + k)) (drop start model) (omega arith) ∙
+    ap (take (stop - (start + k))) (drop-drop k start model) in
     record {
-      edges_are = ap file_edges q ∙ B.edges_are ∙ ap file_edges (sym p) ∙ edges_of W v;
-      signers_are = ap (integers type.SignConstraint) q ∙ ap (map number_of) B.signers_are ∙ ap (integers type.SignConstraint) (sym p) ∙ signers_of model v;
-      short = omega (arith, ap length q, length-drop k x, ap length p, inside_within type.Node model v);
+      lies = record { order = omega arith; within = within };
+      edges_are = ap file_edges (sym q) ∙ B.edges_are ∙ ap file_edges (sym p) ∙ edges_of W v;
+      signers_are =
+          ap (integers type.SignConstraint) (sym q) ∙ ap (map number_of) B.signers_are ∙ ap (integers type.SignConstraint) (sym p) ∙
+          signers_of model v;
+      short = omega (arith, ap length (sym q), l, length-drop k (take (stop - start) (drop start model)));
     }
 
 -- a Node that the model does not have
-pub no_body : {model : List ℕ} → Walkable model → (v : ℕ) → length (insides type.Node model) ≤ v → Body model v []
+pub no_body : {model : List ℕ} → Walkable model → (v : ℕ) → length (insides type.Node model) ≤ v → BodyPart model v nowhere
 unfolding node_inside
 no_body {model} W v h =
     let p : get_or (insides type.Node model) v [] ≡ [] = get_or-eq_default (insides type.Node model) [] {n = v} h in
     record {
+      lies = record { order = omega arith; within = omega arith };
       edges_are = ap file_edges (sym p) ∙ edges_of W v;
       signers_are = ap (integers type.SignConstraint) (sym p) ∙ signers_of model v;
       short = omega arith;

@@ -6,14 +6,15 @@ use mathlib.Core.Bool.{Bool, true, false, cond, ◌&&◌}
 use mathlib.Core.List.{List, [], ◌∷◌, ◌++◌, map}
 use mathlib.Core.Option.{Option, none, some, some-injective}
 use native.Mathlib.Omega.{arith}
-use borrow.Author.Tests.{eq-eqb, leb-false}
-use lib.Dec.{eqb, leb}
+use borrow.Author.Tests.{leb-false}
+use lib.Dec.{leb}
 use lib.ListN.{length, drop, length-drop}
 use Rattle.std.specs.Option.{is_some as read_some}
 use Rattle.std.specs.declared.option.Option.{Option as Answer}
 use Rattle.std.specs.declared.option.Option.TheVariants.{None, Some}
 use Rattle.tlv.specs.Lists.{bind, guard, all}
 use Rattle.tlv.specs.Fields.{the_inside, the_integer}
+use Rattle.lvs_spec.specs.Limits.{max_tag}
 use Rattle.lvs_spec.specs.Types as type
 use Rattle.lvs_spec.specs.Model.{Model, Edge, component_of, constraint_of, value_edge_of, pattern_edge_of, destination}
 use Rattle.lvs_spec.specs.Names.{same}
@@ -22,13 +23,14 @@ use Rattle.lvs_spec.specs.Demands.{OnlyNamed}
 use Rattle.lvs_spec.proofs.Lists.{bind_from, clash}
 use Rattle.lvs_spec.proofs.Temporary.{named_after, temporary_stays}
 use Rattle.lvs_spec.proofs.Bindings.{bound_stays}
-use Rattle.lvs_bindings.specs.Slots.{binding_at, bindings_of, slot_at, bound_slots, without}
+use Rattle.lvs_bindings.specs.Slots.{binding_at, bindings_of, slot_at, bound_tag, bound_slots, without}
 use Rattle.lvs_bindings.specs.declared.Span.{Span}
-use Rattle.lvs_bindings.proofs.Bound.{unbound, is_bound, bound_bindings, bound_back}
+use Rattle.lvs_bindings.proofs.Bound.{unbound, is_bound, tag_bound, tag_unbound, bound_bindings, bound_back}
 use Rattle.lvs_constraints.proofs.Holds.{all_empty}
 use Rattle.lvs_edges.specs.Edges.{edge_of}
 use Rattle.lvs_edges.specs.Plain.{FieldsOf}
-use Rattle.lvs_edges.specs.Crossing.{Ready, Reached, leads_to, reached, arriving, named_slot, same_as, Passed, Crossed, CrossedValue}
+use Rattle.lvs_edges.specs.Crossing.{Ready, Reached, leads_to, reached, arriving, taken_back, new_tag, named_slot, same_as, Passed, Crossed, CrossedValue}
+use Rattle.lvs_edges.specs.Crossing.{unbound as tag_back}
 use Rattle.lvs_edges.specs.declared.EdgeKind.TheVariants.{Value, Pattern}
 use Rattle.lvs_edges.specs.declared.fields.PatternFields.{PatternFields}
 use Rattle.lvs_edges.specs.declared.Crossing.{Crossing}
@@ -48,20 +50,26 @@ module _ (s c : List ℕ) {v : List ℕ} (v-is : v ≡ the_inside type.Value s) 
   value_leads count β b e = rw (← v-is, e, ← h) (led t (the_integer type.NodeId s) β)
 
   pub value_shut : t ≡ false → CrossedValue s c None
-  value_shut f = record { leads = λ count β b e. value_leads count β b e ∙ rw f; binds_none = λ β. refl }
+  value_shut f = record { leads = λ count β b e. value_leads count β b e ∙ rw f; binds_none = refl }
 
   pub value_open : {d : ℕ} → t ≡ true → d ≡ the_integer type.NodeId s → CrossedValue s c (Some (record { node = d; bound = None }))
-  value_open f d = record { leads = λ count β b e. value_leads count β b e ∙ rw (f, ← d); binds_none = λ β. refl }
+  value_open f d = record { leads = λ count β b e. value_leads count β b e ∙ rw (f, ← d); binds_none = refl }
+
+-- where nothing was bound, nothing is taken back
+kept_back : (r : Answer Crossing) → new_tag r ≡ None → (β : Bindings) → taken_back r β ≡ β
+kept_back None e β = refl
+kept_back (Some x) e β = ap (λ o. tag_back o β) e
 
 -- under the bindings as they stand, with the component at its place
 pub value_crossed : {count : ℕ} {packet key s c : List ℕ} {slots : List (Answer Span)} {at : ℕ} {r : Answer Crossing} → Ready count packet key at c slots
     → CrossedValue s c r
     → Crossed count packet key (edge_of Value s) (binding_at packet key at (length c)) slots r slots
 unfolding binding_at
-value_crossed {count} {packet} {key} {c = c} {slots = slots} {at = at} ready value =
+value_crossed {count} {packet} {key} {c = c} {slots = slots} {at = at} {r = r} ready value =
     record {
       leads = value.leads count (bindings_of packet key slots) (binding_at packet key at (length c)) ready.stands.content;
-      back = value.binds_none (bindings_of packet key slots);
+      back = kept_back r value.binds_none (bindings_of packet key slots);
+      low = λ t e. clash (let g = sym value.binds_none ∙ e in cc);
     }
 
 -- ---- a PatternEdge
@@ -76,10 +84,10 @@ some_read {o = Some s} e = (s, refl)
 
 -- nothing stands behind the fields, so that there are no Constraints
 pub none_to_hold : {packet key s c : List ℕ} {slots : List (Answer Span)} {rest : ℕ} {o : Answer Span} → true ≡ same_as packet key o c → rest ≡ length s
-    → Passed packet key s rest o c slots (eqb rest (length s))
+    → Passed packet key s rest o c slots true
 none_to_hold {packet} {key} {s} {c} {slots} {rest} {o} e l =
     let none : length (drop rest s) ≡ 0 = omega (arith, length-drop rest s) in
-    record { is = rw (eq-eqb rest (length s) l, ← e) (sym (all_empty (bindings_of packet key slots) (component_of c) (drop rest s) none)) }
+    record { is = rw (← e) (sym (all_empty (bindings_of packet key slots) (component_of c) (drop rest s) none)) }
 
 module _ {count : ℕ} {packet key s c : List ℕ} {slots : List (Answer Span)} {at : ℕ} {f : PatternFields}
     (ready : Ready count packet key at c slots) (F : FieldsOf s f) {o : Answer Span} (read : o ≡ named_slot count f.tag slots)
@@ -127,11 +135,11 @@ module _ {count : ℕ} {packet key s c : List ℕ} {slots : List (Answer Span)} 
   pattern_leads = rw (ready.stands.content, crosses_is, F.destination, F.tag_is) (led t (the_integer type.NodeId s) _)
 
   pub pattern_shut : t ≡ false → Answered None slots
-  pattern_shut e = record { leads = pattern_leads ∙ rw e refl; back = refl }
+  pattern_shut e = record { leads = pattern_leads ∙ rw e refl; back = refl; low = λ t i. clash (cc) }
 
   -- its Tag is not bound anew
   pattern_kept : t ≡ true → bind_tag count β f.tag b ≡ β → Answered (Some (record { node = f.dest; bound = None })) slots
-  pattern_kept e same-bindings = record { leads = pattern_leads ∙ rw (e, same-bindings) refl; back = refl }
+  pattern_kept e same-bindings = record { leads = pattern_leads ∙ rw (e, same-bindings) refl; back = refl; low = λ t i. clash (cc) }
 
   -- a bound Tag keeps its first place
   pub bound_kept : t ≡ true → {u : Bool} → u ≡ read_some o → u ≡ true → Answered (Some (record { node = f.dest; bound = None })) slots
@@ -142,19 +150,32 @@ module _ {count : ℕ} {packet key s c : List ℕ} {slots : List (Answer Span)} 
   pub temporary_kept : t ≡ true → count < f.tag → Answered (Some (record { node = f.dest; bound = None })) slots
   temporary_kept e h = pattern_kept e (temporary_stays count β f.tag b h)
 
-  -- an unbound one is bound
-  pub free_bound : t ≡ true → {u : Bool} → u ≡ read_some o → u ≡ false → f.tag ≤ count → {after : List (Answer Span)}
-      → after ≡ bound_slots f.tag (record { start = at; size = length c }) slots → Answered (Some (record { node = f.dest; bound = Some f.tag })) after
-  free_bound e u-is u low {after} after_is =
-      let z = none_read (sym u-is ∙ u) in
-      let free : bound β f.tag ≡ none = ⊎_elim (λ (q, w). w) (λ (y, q, w). clash (let g = sym z ∙ q in cc)) tag_read in
-      let x : Span = record { start = at; size = length c } in
-      let now : bindings_of packet key after ≡ bind_tag count β f.tag b =
-      ap (bindings_of packet key) after_is ∙ bound_bindings packet key slots count f.tag x low free in
-      record {
-        leads = pattern_leads ∙ rw (e, now) refl;
-        back = ap (λ l. without f.tag (bindings_of packet key l)) after_is ∙ bound_back packet key slots count f.tag x low free;
-      }
+  -- an unbound one is bound, if it has a binding
+  module _ (all : length slots ≡ max_tag) (e : t ≡ true) {u : Bool} (u-is : u ≡ read_some o) (u-false : u ≡ false) (named : f.tag ≤ count)
+      {after : List (Answer Span)} (after_is : after ≡ bound_slots f.tag (record { start = at; size = length c }) slots) where
+    free : bound β f.tag ≡ none
+    free = let z = none_read (sym u-is ∙ u-false) in ⊎_elim (λ (q, w). w) (λ (y, q, w). clash (let g = sym z ∙ q in cc)) tag_read
+
+    abbrev x : Span
+    x = record { start = at; size = length c }
+
+    now : bindings_of packet key after ≡ bind_tag count β f.tag b
+    now = ap (bindings_of packet key) after_is ∙ bound_bindings packet key slots count f.tag x named free
+
+    pub free_bound : (r : Answer ℕ) → r ≡ bound_tag f.tag → Answered (Some (record { node = f.dest; bound = r })) after
+    free_bound None r-is =
+        record {
+          leads = pattern_leads ∙ rw (e, now) refl;
+          back = ap (bindings_of packet key) (after_is ∙ tag_unbound f.tag x all (sym r-is));
+          low = λ t i. clash (cc);
+        }
+    free_bound (Some y) r-is =
+        let same-tag = (tag_bound f.tag (sym r-is)).0 in
+        record {
+          leads = pattern_leads ∙ rw (e, now) refl;
+          back = rw same-tag (ap (λ l. without f.tag (bindings_of packet key l)) after_is ∙ bound_back packet key slots count f.tag x named free);
+          low = λ i q. (tag_bound f.tag (sym r-is ∙ q)).1;
+        }
 
 -- ---- any edge
 

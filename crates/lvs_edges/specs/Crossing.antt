@@ -1,9 +1,10 @@
 -- Crossing an edge: where it leads, the bindings before and after it, and how to take back what it bound.
-use Rattle.std.specs.Prelude.{ℕ, ◌<◌, ◌≡◌, Bool, true, cond, ◌&&◌, leb, List, length, drop}
+use Rattle.std.specs.Prelude.{ℕ, ◌<◌, ◌≤◌, ◌≡◌, Bool, true, cond, ◌&&◌, leb, List, length, drop}
 use Rattle.std.proofs.Math.Option as math
 use Rattle.std.specs.declared.option.Option.{Option}
 use Rattle.std.specs.declared.option.Option.TheVariants.{None, Some}
 use Rattle.tlv.specs.Lists.{bind, all}
+use Rattle.lvs_spec.specs.Limits.{max_tag}
 use Rattle.lvs_spec.specs.Model.{Edge, component_of, destination, pattern_edge_of}
 use Rattle.lvs_spec.specs.Names.{same}
 use Rattle.lvs_spec.specs.Walk.{Binding, Bindings, Match, bindings_after, constraint_holds}
@@ -53,6 +54,15 @@ abbrev pub taken_back : Option Crossing → Bindings → Bindings
 taken_back None s = s
 taken_back (Some x) s = unbound x.bound s
 
+-- the Tag that it bound, if one was
+abbrev pub new_tag : Option Crossing → Option ℕ
+new_tag None = None
+new_tag (Some x) = x.bound
+
+-- a Tag, if there is one, that has a binding
+abbrev pub InRange : Option ℕ → Type 0
+InRange o = (t : ℕ) → o ≡ Some t → (0 < t) × (t ≤ max_tag)
+
 -- what a Tag is bound to; a temporary one to nothing
 unfoldable pub named_slot : ℕ → ℕ → List (Option Span) → Option Span
 named_slot count tag slots = cond (leb tag count) (slot_at slots tag) None
@@ -69,8 +79,9 @@ pub record Crossed (count : ℕ) (packet key : List ℕ) (e : Edge) (b : Binding
     (after : List (Option Span)) : Type 0 where
   pub leads : leads_to count (bindings_of packet key before) b e ≡ reached r (bindings_of packet key after)
   pub back : taken_back r (bindings_of packet key after) ≡ bindings_of packet key before
+  pub low : InRange (new_tag r)
 
 -- a ValueEdge binds nothing, so that it is crossed alike under all bindings and counts
 pub record CrossedValue (s c : List ℕ) (r : Option Crossing) : Type 0 where
   pub leads : (count : ℕ) (β : Bindings) (b : Binding) → b.component.content ≡ component_of c → leads_to count β b (edge_of Value s) ≡ reached r β
-  pub binds_none : (β : Bindings) → taken_back r β ≡ β
+  pub binds_none : new_tag r ≡ None

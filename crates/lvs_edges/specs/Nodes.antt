@@ -1,11 +1,11 @@
 -- Where in a model the edges and signers of each Node are.
-use Rattle.std.specs.Prelude.{ℕ, ◌≤◌, ◌≡◌, Bool, ◌||◌, List, [], map, eqb, length, drop, get_or}
-use denote.Ref.{Bor}
+use Rattle.std.specs.Prelude.{ℕ, ◌-◌, ◌≤◌, ◌≡◌, Bool, ◌||◌, List, [], eqb, length, take, drop, get_or}
 use Rattle.tlv.specs.Fields.{insides, integers}
 use Rattle.lvs_spec.specs.Limits.{max_model_bytes, max_nodes}
 use Rattle.lvs_spec.specs.Types as type
 use Rattle.lvs_spec.specs.Model.{edges, node_at, node_of, model_of}
 use Rattle.lvs_edges.specs.Edges.{file_edges}
+use Rattle.lvs_edges.specs.declared.body.Body.{Body}
 
 -- the inside of the Node with this index; nothing where there is none
 unfoldable pub node_inside : List ℕ → ℕ → List ℕ
@@ -28,12 +28,24 @@ pub record BodyFrom (s : List ℕ) (at : ℕ) : Type 0 where
   pub edges_are : file_edges (drop at s) ≡ file_edges s
   pub signers_are : insides type.SignConstraint (drop at s) ≡ insides type.SignConstraint s
 
+-- a part of the model
+pub record LiesIn (model : List ℕ) (b : Body) : Type 0 where
+  pub order : b.start ≤ b.end
+  pub within : b.end ≤ length model
+
+abbrev pub part_of : List ℕ → Body → List ℕ
+part_of model b = take (b.end - b.start) (drop b.start model)
+
+abbrev pub nowhere : Body
+nowhere = record { start = 0; end = 0 }
+
 -- the body of the Node v, as it was read
-abbrev pub body_at : List (Bor (List ℕ)) → ℕ → List ℕ
-body_at bodies v = get_or (map (λ b. b.now) bodies) v []
+abbrev pub body_at : List ℕ → List Body → ℕ → List ℕ
+body_at model bodies v = part_of model (get_or bodies v nowhere)
 
 -- the edges and signers of every Node, and of those that a model of few bytes does not have
-pub record NodesAt (model : List ℕ) (bodies : List (Bor (List ℕ))) : Type 0 where
-  pub edges_are : (v : ℕ) → file_edges (body_at bodies v) ≡ edges (node_at (model_of model) v)
-  pub signers_are : (v : ℕ) → integers type.SignConstraint (body_at bodies v) ≡ (node_at (model_of model) v).signers
-  pub short : (v : ℕ) → length (body_at bodies v) ≤ max_model_bytes
+pub record NodesAt (model : List ℕ) (bodies : List Body) : Type 0 where
+  pub lies : (v : ℕ) → LiesIn model (get_or bodies v nowhere)
+  pub edges_are : (v : ℕ) → file_edges (body_at model bodies v) ≡ edges (node_at (model_of model) v)
+  pub signers_are : (v : ℕ) → integers type.SignConstraint (body_at model bodies v) ≡ (node_at (model_of model) v).signers
+  pub short : (v : ℕ) → length (body_at model bodies v) ≤ max_model_bytes

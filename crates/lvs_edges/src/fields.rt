@@ -25,6 +25,7 @@ pub fn destination(s: &[u8]) -> u64
 }
 
 // What the Value of a ValueEdge holds.
+#[inline]
 pub fn value_of(s: &[u8]) -> &[u8]
     ensures { result.now ≡ the_inside type.Value s.now }
 {

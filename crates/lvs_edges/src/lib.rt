@@ -6,6 +6,7 @@
 // that can be walked; the search and the follower have made them. Edges may be any bytes.
 #![tactic(auto)]
 
+mod body;
 mod context;
 mod fields;
 pub mod nodes;
@@ -16,6 +17,7 @@ ghost use Rattle.lvs_edges.specs.Edges.{edge_of};
 ghost use Rattle.lvs_edges.specs.declared.EdgeKind.TheVariants as kind;
 ghost use Rattle.lvs_edges.specs.Crossing.{Ready, named_slot, same_as, Passed, Crossed, CrossedValue};
 
+pub use body::Body;
 pub use context::Context;
 pub use fields::{PatternFields, destination, pattern_fields, value_of};
 use lvs_bindings::names::Names;
@@ -61,6 +63,7 @@ impl<'a> Iterator for Edges<'a> {
 
     ghost remaining = { item_count edges_left };
 
+    #[inline(always)]
     fn next(&mut self) -> Option<Edge<'a>> {
         while let Some(e) = self.elements.next() {
             if e.typ == VALUE_EDGE {
@@ -81,6 +84,7 @@ impl<'a> Iterator for Edges<'a> {
 }
 
 /// Crosses an edge, where it can be crossed.
+#[inline(always)]
 pub fn cross<'a>(
     edge: Edge<'a>,
     named: u64,
@@ -100,6 +104,7 @@ pub fn cross<'a>(
 }
 
 /// Crosses a ValueEdge. Where it leads is read only when the component passes.
+#[inline(always)]
 pub fn cross_value(s: &[u8], component: Component) -> Option<Crossing>
     ensures { CrossedValue s.now component.entry.bytes.now result }
 {
@@ -114,6 +119,7 @@ pub fn cross_value(s: &[u8], component: Component) -> Option<Crossing>
 
 /// Crosses a PatternEdge: a bound Tag is compared, and an unbound one is bound. Constraints are tested before that; for a temporary Tag they are
 /// all there is to test.
+#[inline(always)]
 pub fn cross_pattern<'a>(
     s: &'a [u8],
     named: u64,
@@ -139,22 +145,15 @@ pub fn cross_pattern<'a>(
     if named < tag {
         return Some(Crossing { node, bound: None });
     }
+    let start = at as u32;
     let size = component.bytes.len() as u32;
-    slots.bind(
-        tag,
-        Span {
-            start: at as u32,
-            size,
-        },
-    );
-    Some(Crossing {
-        node,
-        bound: Some(tag),
-    })
+    let bound = slots.bind(tag, Span { start, size });
+    Some(Crossing { node, bound })
 }
 
 // What a Tag is bound to; a temporary one to nothing.
 #[tactic(auto, unfolding(crate::specs::Crossing::named_slot))]
+#[inline(always)]
 fn named_slot(slots: &Slots, named: u64, tag: u64) -> Option<Span>
     ensures { result ≡ named_slot named tag slots.now.spans }
 {
@@ -162,6 +161,7 @@ fn named_slot(slots: &Slots, named: u64, tag: u64) -> Option<Span>
 }
 
 // Whether a component passes a PatternEdge whose Tag is bound so, and whose Constraints are from `rest` on. Most edges have none.
+#[inline(always)]
 fn passes<'a>(
     s: &'a [u8],
     rest: usize,
@@ -173,15 +173,22 @@ fn passes<'a>(
     requires { rest ≤ length s.now }
     ensures { Passed names.entry.packet.now names.entry.key.now s.now rest bound component.entry.bytes.now slots.now.spans result }
 {
+    if !same_as(bound, names, component) {
+        return false;
+    }
+    if rest == s.len() {
+        return true;
+    }
     let trial = Trial {
         names,
         slots,
         component,
     };
-    same_as(bound, names, component) && (rest == s.len() || trial.constraints_hold(&s[rest..]))
+    trial.constraints_hold(&s[rest..])
 }
 
 // Whether a component is the one that a Tag is bound to, if it is bound.
+#[inline(always)]
 fn same_as<'a>(bound: Option<Span>, names: Names<'a>, component: Component<'a>) -> bool
     ensures { result ≡ same_as names.entry.packet.now names.entry.key.now bound component.entry.bytes.now }
 {

@@ -1,19 +1,21 @@
 // Where the Nodes of a model are, and what they list.
 ghost use Rattle.std.specs.Prelude.{◌≡◌};
-ghost use Rattle.lvs_edges.specs.Nodes.{Walkable, in_body, BodyFrom, NodesAt};
+ghost use Rattle.lvs_edges.specs.Nodes.{Walkable, in_body, BodyFrom, LiesIn, part_of, NodesAt};
 
 use super::Edges;
+use crate::body::Body;
 use lvs_spec::MAX_NODES;
 use lvs_spec::types::{
     NAMED_PATTERN_CNT, NODE, NODE_ID, PATTERN_EDGE, SIGN_CONSTRAINT, VALUE_EDGE,
 };
 use tlv::{Elements, Place, Read};
 
-/// A model that can be walked, with the part of each Node that has its edges and signers; no bytes for a Node that the model does not have.
+/// A model that can be walked, with the body of each Node, by two places: slices would take twice the room, and clearing it most of a call on a small
+/// model. No bytes for a Node that the model does not have.
 #[derive(Drop)]
 pub struct Nodes<'a> {
     pub model: &'a [u8],
-    pub bodies: [&'a [u8]; MAX_NODES],
+    pub bodies: [Body; MAX_NODES],
     pub ghost read: { NodesAt model.now bodies },
 }
 
@@ -26,19 +28,37 @@ impl<'a> Nodes<'a> {
     ghost use Rattle.lvs_edges.specs.Nodes.{body_at};
     ghost use Rattle.lvs_edges.specs.Left.{edges_left};
 
+    #[inline(always)]
     pub fn of(model: &'a [u8]) -> Nodes<'a>
         requires { Walkable model.now }
         ensures { result.model ≡ model.entry }
     {
-        let mut bodies: [&[u8]; MAX_NODES] = [&[]; MAX_NODES];
+        let mut bodies = [Body { start: 0, end: 0 }; MAX_NODES];
         let mut n: usize = 0;
-        for e in Elements::of(model) {
-            if e.typ == NODE {
-                bodies[n] = &e.inside[body_of(e.inside)..];
-                n += 1;
+        let mut place = Place { at: 0 };
+        // By places, which are what it keeps.
+        loop {
+            match place.element(model) {
+                Read::Found {
+                    typ,
+                    start,
+                    end,
+                    next,
+                } => {
+                    place = next;
+                    if typ == NODE {
+                        let body = start + body_of(&model[start..end]);
+                        bodies[n] = Body {
+                            start: body as u32,
+                            end: end as u32,
+                        };
+                        n += 1;
+                    }
+                }
+                Read::End => return Nodes { model, bodies },
+                Read::Malformed => return Nodes { model, bodies },
             }
         }
-        Nodes { model, bodies }
     }
 
     /// Where a walk begins.
@@ -58,10 +78,10 @@ impl<'a> Nodes<'a> {
     }
 
     fn body(&self, node: u64) -> &'a [u8]
-        ensures { result.now ≡ body_at self.now.bodies node }
+        ensures { result.now ≡ body_at self.now.model.now self.now.bodies node }
     {
         match self.bodies.get(node as usize) {
-            Some(body) => body,
+            Some(body) => part_of(self.model, *body),
             None => &[],
         }
     }
@@ -83,6 +103,14 @@ impl<'a> Nodes<'a> {
         Elements::of(self.body(node)).any(|e| e.typ == SIGN_CONSTRAINT
             && tlv::number_of(e.inside) == signer)
     }
+}
+
+// A parameter's fields are known to fit, which an array's element read through a reference is not.
+fn part_of(model: &[u8], body: Body) -> &[u8]
+    requires { LiesIn model.now body }
+    ensures { result.now ≡ part_of model.now body }
+{
+    &model[body.start as usize..body.end as usize]
 }
 
 // What the walk looks for in a Node: edges and signers.

@@ -152,6 +152,7 @@ pub fn read_component(s: &[u8]) -> Content
 
 // Compares the component that `s` begins with with `c`: type and length first, then the values from the back. A layer below: any bytes may be
 // `s`; `c` is what the walk has cut out of a name.
+#[inline]
 pub fn compare(s: &[u8], c: Component) -> Compared
     ensures { ComparedOf (component_of s.now) (component_of c.entry.bytes.now) result }
 {
@@ -198,6 +199,7 @@ fn same_header(s: &[u8], c: &[u8], header: usize) -> bool
 }
 
 // The place behind the last byte of `c` that is another one in `s`, as far down as `header`; `header` where there is none.
+#[inline(never)]
 fn last_difference(s: &[u8], c: &[u8], header: usize) -> usize
     requires { Headed s.now c.now header }
     ensures { LastDifference s.now c.now header result }

@@ -18,5 +18,5 @@ returns-then-named-tag c =
 
 pub returns : goal.returns
 returns c =
-    free_bound c.requires c.pattern_fields-fields.ensures c.named_slot-bound.ensures c.passes.ensures c.if-not-passes.false
-    c.is_some.ensures c.if-is_some.false c.if-named-tag.false c.bind.ensures
+    free_bound c.requires c.pattern_fields-fields.ensures c.named_slot-bound.ensures c.passes.ensures c.args.slots.now.all c.if-not-passes.false
+    c.is_some.ensures c.if-is_some.false c.if-named-tag.false c.bind-bound.ensures.spans _ c.bind-bound.ensures.tag

@@ -15,4 +15,4 @@ pub returns-clause-few : goal.returns-clause-few
 returns-clause-few c =
     let same = ap (each edge_from) c.of.ensures.left ∙ sym (edges_listed _) ∙ ap file_edges c.body.ensures in
     let short = c.args.self.now.read.short c.args.node in
-    omega (arith, ap length same, edges_few (body_at c.args.self.now.bodies c.args.node), short)
+    omega (arith, ap length same, edges_few (body_at c.args.self.now.model.now c.args.self.now.bodies c.args.node), short)
