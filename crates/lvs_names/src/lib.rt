@@ -194,7 +194,7 @@ fn same_header(s: &[u8], c: &[u8], header: usize) -> bool
     if s[0] != c[0] {
         return false;
     }
-    s[2..header] == c[2..header]
+    tlv::same_bytes(&s[2..header], &c[2..header])
 }
 
 // The place behind the last byte of `c` that is another one in `s`, as far down as `header`; `header` where there is none.
