@@ -123,10 +123,7 @@ pub fn component_at(name: &[u8], at: usize) -> Option<Component<'_>>
     let Read::Found { start, end, .. } = place.element(name) else {
         return None;
     };
-    Some(Component {
-        bytes: &name[at..end],
-        header: start - at,
-    })
+    Some(Component::new(&name[at..end], start - at))
 }
 
 // The component that a slice begins with; where there is none, type 0 and no bytes. The contract leaves open where that empty part lies.
