@@ -59,7 +59,7 @@ use Rattle.lvs_spec.specs.Refusals.{refusal_of}
 use Rattle.lvs_spec.specs.declared.refusal.Refusal.{Refusal}
 use Rattle.lvs_spec.specs.declared.refusal.Refusal.TheVariants as refused
 use Rattle.lvs_edges.proofs.Ordered.{walkable}
-use Rattle.lvs_edges.proofs.Bodies.{node_edges_few}
+use Rattle.lvs_edges.proofs.Few.{edges_few}
 use Rattle.lvs_verdict.specs.Answers.{verdict_of}
 use Rattle.lvs_follow.specs.Answers.{follow_answer_of}
 use Rattle.lvs.specs.Answers.{MatchAnswer, match_answer_of, SignAnswer, sign_answer_of, SuggestAnswer, suggest_answer_of}
@@ -393,7 +393,7 @@ some_path_accepted {model} {packet} {key} a =
     let walks = walkable model e in
     record {
       path = w.path;
-      words_fit = λ x i. let l = w.low (length model) (node_edges_few model walks) i in omega (arith, l, walks.short);
+      words_fit = λ x i. let l = w.low (length model) (edges_few model walks) i in omega (arith, l, walks.short);
       accepted = λ {r} f. same_following r _ (followed_is f ∙ w.accepted);
     }
 

@@ -17,7 +17,6 @@ use Rattle.lvs_edges.specs.Edges.{edge_from, file_edges}
 use Rattle.lvs_edges.specs.Nodes.{node_inside, Walkable, in_body, BodyFrom, LiesIn, part_of, nowhere}
 use Rattle.lvs_edges.specs.declared.body.Body.{Body}
 use Rattle.lvs_edges.proofs.Listed.{from_other}
-use Rattle.lvs_edges.proofs.Few.{inside_within, edges_few}
 
 other_type : {t k : ℕ} → in_body t ≡ false → in_body k ≡ true → t ≡ k → ⊥
 other_type p q e = let r : ◌≡◌ {A = Bool} false true = sym p ∙ ap in_body e ∙ q in let z : ◌≡◌ {A = ℕ} 0 1 = cc in omega arith
@@ -53,10 +52,6 @@ signers_of model v = sym (ap (λ (n : Node). n.signers) (node_at_lem model v))
 
 pub edges_of : {model : List ℕ} → Walkable model → (v : ℕ) → file_edges (node_inside model v) ≡ edges (node_at (model_of model) v)
 edges_of {model} W v = W.ordered v ∙ ap edges (sym (node_at_lem model v))
-
-pub node_edges_few : (model : List ℕ) → Walkable model → (v : ℕ) → length (edges (node_at (model_of model) v)) ≤ length model
-unfolding node_inside
-node_edges_few model W v = omega (arith, ap length (edges_of W v), edges_few (node_inside model v), inside_within type.Node model v)
 
 -- ---- the part of the model
 

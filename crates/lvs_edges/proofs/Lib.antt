@@ -1,7 +1,8 @@
 pub mod Listed
 pub mod FixedPlaces
-pub mod Few
+pub mod Sizes
 pub mod Bodies
+pub mod Few
 pub mod Ordered
 pub mod Filled
 pub mod Crossed

@@ -62,7 +62,7 @@ module _ (packet key : List ℕ) (side : Side) where
         go Key h = rw (le-ltb (length packet + at) (length packet) (omega arith))
 
   -- the row goes on with the component that was found
-  row_found : {at header : ℕ} {b : List ℕ} → RowStep (name_for packet key side) at b header
+  pub row_found : {at header : ℕ} {b : List ℕ} → RowStep (name_for packet key side) at b header
       → row_for packet key side at ≡ binding_at packet key (text_place packet side at) (length b) ∷ row_for packet key side (at + length b)
   unfolding binding_at row_for row_of
   row_found {at} f =

@@ -123,10 +123,7 @@ pub fn component_at(name: &[u8], at: usize) -> Option<Component<'_>>
     let Read::Found { start, end, .. } = place.element(name) else {
         return None;
     };
-    Some(Component {
-        bytes: &name[at..end],
-        header: start - at,
-    })
+    Some(Component::new(&name[at..end], start - at))
 }
 
 // The component that a slice begins with; where there is none, type 0 and no bytes. The contract leaves open where that empty part lies.
@@ -195,7 +192,7 @@ fn same_header(s: &[u8], c: &[u8], header: usize) -> bool
     if s[0] != c[0] {
         return false;
     }
-    s[2..header] == c[2..header]
+    tlv::same_bytes(&s[2..header], &c[2..header])
 }
 
 // The place behind the last byte of `c` that is another one in `s`, as far down as `header`; `header` where there is none.

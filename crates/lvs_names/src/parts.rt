@@ -11,3 +11,17 @@ pub struct Component<'a> {
     pub ghost fits: { Bytes bytes.now },
     pub ghost alone: { is_alone bytes.now header ≡ true },
 }
+
+impl<'a> Component<'a> {
+    ghost use Rattle.std.specs.Prelude.{◌≡◌};
+    ghost use Rattle.lvs_names.specs.Alone.{Alone};
+
+    /// From bytes that are one component and no more, with a header of `header` bytes.
+    #[inline(always)]
+    pub fn new(bytes: &'a [u8], header: usize) -> Component<'a>
+        requires { Alone bytes.now header }
+        ensures { (result.bytes ≡ bytes.entry) × (result.header ≡ header) }
+    {
+        Component { bytes, header }
+    }
+}

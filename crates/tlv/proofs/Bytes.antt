@@ -2,19 +2,20 @@
 use mathlib.Core.Path.{◌≡◌, refl, sym, ap, ◌∙◌}
 use mathlib.Core.List.{List, [], ◌∷◌, ◌++◌}
 use mathlib.Core.Bool.{Bool, true, false, false≢true, ◌&&◌}
-use Prim.Native.Nat.{ℕ, zero, suc, ◌+◌, ◌*◌, ◌%◌, ◌^◌, ◌<◌}
+use Prim.Native.Nat.{ℕ, zero, suc, ◌+◌, ◌*◌, ◌%◌, ◌^◌, ◌≤◌, ◌<◌}
 use native.Mathlib.Nat.{add-mul, pow-suc, pow-succ', mul_assoc, mod-lt, div-add-mod', div-lt_iff_lt-mul}
 use native.Mathlib.Omega.{arith}
 use borrow.Author.Tests.{eqb-true, eq-eqb}
 use lib.Arith.{digits_lt, digits_div, digits_mod}
 use lib.Dec.{eqb, lit<}
-use lib.ListN.{length, take, drop, get_or, length-append}
-use lib.Seq.{get_or-drop, take-add, drop-cons, take-append_seam, drop-append_seam}
+use lib.ListN.{length, take, drop, get_or, length-append, length-drop}
+use lib.Seq.{get_or-drop, length-take-le, take-add, drop-drop, drop-cons, take-append_seam, drop-append_seam}
 use lib.Pow.{pow-add}
 use Rattle.std.proofs.Common.{nat_eq}
 use Rattle.std.specs.Cmp.Lexicographic.{pointwise}
 use Rattle.std.proofs.Common.{take_all}
 use Rattle.tlv.specs.Bytes.{Bytes, same_bytes, big_endian, big_endian_bytes}
+use Rattle.tlv.specs.Spelled.{Spelled}
 
 pub pow_pos : (w : ℕ) → 0 < 256 ^ w
 pow_pos zero = lit< tt
@@ -83,6 +84,18 @@ big_append (x ∷ s) t =
     ap (λ (k : ℕ). x * 256 ^ k) (length-append s t) ∙ ap (λ (k : ℕ). x * k) (pow-add 256 (length s) (length t)) ∙
     sym (mul_assoc x (256 ^ length s) (256 ^ length t)) in
     omega (arith, big_append s t, add-mul (x * 256 ^ length s) (big_endian s) (256 ^ length t))
+
+-- and at a place: what a number of w bytes and one of the v bytes behind them come to
+pub joined : (s : List ℕ) (at w v : ℕ) {x y : ℕ} → Spelled s at w x → Spelled s (at + w) v y → at + (w + v) ≤ length s
+    → Spelled s at (w + v) (x * 256 ^ v + y)
+joined s at w v X Y fits =
+    let back : List ℕ = take v (drop (at + w) s) in
+    let long : length back ≡ v = length-take-le v (drop (at + w) s) (simp length-drop (omega arith)) in
+    let cut : take (w + v) (drop at s) ≡ take w (drop at s) ++ back = take-add w v (drop at s) ∙ rw (drop-drop w at s) in
+    record {
+      is = rw (cut, big_append (take w (drop at s)) back, long, ← X.is, ← Y.is);
+      below = rw (pow-add 256 w v) (digits_lt X.below Y.below);
+    }
 
 -- one byte more at the end
 pub big_more : (s : List ℕ) (i : ℕ) → i < length s → big_endian (take (i + 1) s) ≡ big_endian (take i s) * 256 + get_or s i 0

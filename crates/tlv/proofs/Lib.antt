@@ -1,4 +1,5 @@
 pub mod Bytes
+pub mod Places
 pub mod Numbers
 pub mod AtPlace
 pub mod Cuts

@@ -1,4 +1,5 @@
 pub mod Bytes
+pub mod Spelled
 pub mod Number
 pub mod Element
 pub mod Answers

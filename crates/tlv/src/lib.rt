@@ -223,7 +223,7 @@ pub fn number_in(s: &[u8], typ: u32) -> u64
 }
 
 // Whether two slices hold the same bytes.
-#[tactic(auto, using(crate::proofs::Bytes::same_pointwise))]
+#[inline(always)]
 pub fn same_bytes(a: &[u8], b: &[u8]) -> bool
     ensures { result ≡ same_bytes a.now b.now }
 {

@@ -1,6 +1,4 @@
 -- `lvs_names::same_header` meets its contract: the second bytes and the first are compared, then the rest. Assumes nothing.
-use Rattle.std.proofs.Common.{sym, ◌∙◌}
-use Rattle.tlv.proofs.Bytes.{same_pointwise}
 use Rattle.lvs_names.proofs.Comparing.{first_differs, second_differs, two_agree}
 use Rattle.lvs_names.proofs.same_header.Goals as goal
 
@@ -11,4 +9,4 @@ pub returns-then-s-c-2 : goal.returns-then-s-c-2
 returns-then-s-c-2 c = first_differs c.requires c.if-s-c-2.true
 
 pub returns : goal.returns
-returns c = two_agree c.requires c.if-s-c-2.false c.if-s-c.false (c.eq.ensures ∙ sym (same_pointwise _ _))
+returns c = two_agree c.requires c.if-s-c-2.false c.if-s-c.false c.same_bytes.ensures
