@@ -25,12 +25,13 @@ mod answers;
 mod fields;
 mod input;
 mod output;
+mod stdio;
 
 use answers::Driver;
 use input::{Broken, CaseReader};
 use output::AnswerWriter;
-use std::io;
 use std::io::{Read, Write};
+use stdio::{Stdin, Stdout};
 
 /// What is lent to the calls: for the first field, for numbers, and for another field.
 #[derive(Drop)]
@@ -40,15 +41,15 @@ struct Memory {
     texts: [u8; 65536],
 }
 
-fn main(rt: HostRuntime) {
+fn main() {
     let mut memory = Memory {
         model: [0; 65536],
         numbers: [0; 8192],
         texts: [0; 65536],
     };
     let mut driver = Driver {
-        input: CaseReader::new(rt.stdin()),
-        out: AnswerWriter::new(io::writer(&rt)),
+        input: CaseReader::new(Stdin),
+        out: AnswerWriter::new(Stdout),
     };
     answer_cases(&mut driver, &mut memory);
     driver.out.flush();

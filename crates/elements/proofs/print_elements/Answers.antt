@@ -4,4 +4,4 @@ use Rattle.tlv.proofs.Cuts.{seen}
 use Rattle.elements.proofs.print_elements.Goals as goal
 
 pub loop-typ-smaller : goal.loop-typ-smaller
-loop-typ-smaller g c = omega (arith, seen _ _ c.element.ensures c.in-Found.is)
+loop-typ-smaller c = omega (arith, seen _ _ c.element.ensures c.in-Found.is)

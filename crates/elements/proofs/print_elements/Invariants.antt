@@ -3,4 +3,4 @@ use Rattle.std.proofs.Common.{◌-◌, length}
 use Rattle.elements.proofs.print_elements.Given as goal
 
 abbrev pub decreases-loop-typ : goal.decreases-loop-typ
-decreases-loop-typ g l = length l.s - l.place.at
+decreases-loop-typ l = length l.s - l.place.at
