@@ -76,7 +76,6 @@ fn read_model<'a, R: Files>(rt: &R, space: &'a mut [u8]) -> &'a [u8]
 }
 
 /// As many bytes as the file has and the space holds. A read that fails ends it, like the end of the file.
-/// This and `put_line` stand in three programs: no library may name `std` (tools/axioms.py).
 fn read_all<'a, R: Read + Drop>(mut file: R, space: &'a mut [u8]) -> &'a [u8]
     ensures { length result.now ≤ length space.old }
 {

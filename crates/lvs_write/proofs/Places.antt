@@ -225,6 +225,16 @@ text_missing e = record { is = rw e.is }
 
 -- ---- what a leaf takes: one and then another
 
+-- what is taken then may depend on what was taken first
+pub took_chosen : {A B : Type 0} {f : Lists → Taken A} (h : A → Lists → Taken B) {s m r : Cursor} {a : A} {b : B} → Took f s a m → Took (h a) m b r
+    → Took (λ l. bind (f l) (λ x. h x.0 x.1)) s b r
+took_chosen h T U = record { is = rw (T.is, U.is); place = U.place ∙ T.place }
+
+-- and may be read as something else
+pub took_map : {A B : Type 0} {f : Lists → Taken A} (g : A → B) {s r : Cursor} {a : A} → Took f s a r
+    → Took (λ l. bind (f l) (λ x. some (g x.0, x.1))) s (g a) r
+took_map g T = record { is = rw T.is; place = T.place }
+
 module _ {A B : Type 0} (f : Lists → Taken A) (g : Lists → Taken B) where
   abbrev pub both : Lists → Taken (A × B)
   both l = bind (f l) (λ x. bind (g x.1) (λ y. some ((x.0, y.0), y.1)))
