@@ -101,7 +101,8 @@ impl<'a> Trial<'a> {
         Elements::of(s).any(|e| e.typ == CONSTRAINT_OPTION && self.option_holds(e.inside))
     }
 
-    // Whether every Constraint of a PatternEdge holds; `s` is the edge, or a part of it with all its Constraints.
+    // Whether every Constraint of a PatternEdge holds; `s` is the edge, or a part of it with all its Constraints. Never a part of its caller: most edges
+    // have none, and the walk's frame would have room for what is tried here at each level.
     #[inline(never)]
     pub fn constraints_hold(&self, s: &'a [u8]) -> bool
         ensures { result ≡ all (constraint_holds (bindings self.now) (content self.now)) (pattern_edge_of s.now).constraints }

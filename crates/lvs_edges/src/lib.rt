@@ -4,6 +4,8 @@
 //
 // A layer below the public calls: `requires` asks for such a component, for slots in which only named Tags are bound and, in `nodes`, for a model
 // that can be walked; the search and the follower have made them. Edges may be any bytes.
+//
+// What crosses an edge is a part of the walk's loop (`inline(always)`): as calls these would copy names and component for each edge that is tried.
 #![tactic(auto)]
 
 mod body;

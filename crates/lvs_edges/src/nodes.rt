@@ -28,7 +28,6 @@ impl<'a> Nodes<'a> {
     ghost use Rattle.lvs_edges.specs.Nodes.{body_at};
     ghost use Rattle.lvs_edges.specs.Left.{edges_left};
 
-    #[inline(always)]
     pub fn of(model: &'a [u8]) -> Nodes<'a>
         requires { Walkable model.now }
         ensures { result.model ≡ model.entry }
