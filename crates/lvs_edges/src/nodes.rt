@@ -10,8 +10,8 @@ use lvs_spec::types::{
 };
 use tlv::{Elements, Place, Read};
 
-/// A model that can be walked, with the body of each Node, by two places: slices would take twice the room, and clearing it most of a call on a small
-/// model. No bytes for a Node that the model does not have.
+/// A model that can be walked, with the body of each Node, by two places: slices would take twice the room, which each call clears and moves.
+/// No bytes for a Node that the model does not have.
 #[derive(Drop)]
 pub struct Nodes<'a> {
     pub model: &'a [u8],

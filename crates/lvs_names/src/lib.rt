@@ -195,8 +195,8 @@ fn same_header(s: &[u8], c: &[u8], header: usize) -> bool
     tlv::same_bytes(&s[2..header], &c[2..header])
 }
 
-// The place behind the last byte of `c` that is another one in `s`, as far down as `header`; `header` where there is none. Never a part of its caller: in
-// the walk there are no registers left for this loop, and a byte then costs a sixth more.
+// The place behind the last byte of `c` that is another one in `s`, as far down as `header`; `header` where there is none. Never a part of its caller: the
+// walk would keep the loop's places on its stack. A byte takes as many instructions either way (docs/LOOK-BACK.md).
 #[inline(never)]
 fn last_difference(s: &[u8], c: &[u8], header: usize) -> usize
     requires { Headed s.now c.now header }

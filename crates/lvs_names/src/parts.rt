@@ -16,7 +16,8 @@ impl<'a> Component<'a> {
     ghost use Rattle.std.specs.Prelude.{◌≡◌};
     ghost use Rattle.lvs_names.specs.Alone.{Alone};
 
-    /// From bytes that are one component and no more, with a header of `header` bytes.
+    /// From bytes that are one component and no more, with a header of `header` bytes. A layer below the public calls: `requires` asks for that, and
+    /// `component_at` has found it.
     #[inline(always)]
     pub fn new(bytes: &'a [u8], header: usize) -> Component<'a>
         requires { Alone bytes.now header }
