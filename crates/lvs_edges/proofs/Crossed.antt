@@ -40,6 +40,18 @@ led : (t : Bool) (d : ℕ) (s : Bindings)
 led true d s = refl
 led false d s = refl
 
+-- ---- what search and follower use of a crossing
+
+-- where the edge leads, and that taking back what it bound gives what was before. `Crossed` says besides that a Tag that it bound has a binding
+pub record LeadsBack (count : ℕ) (packet key : List ℕ) (e : Edge) (b : Binding) (before : List (Answer Span)) (r : Answer Crossing)
+    (after : List (Answer Span)) : Type 0 where
+  pub leads : leads_to count (bindings_of packet key before) b e ≡ reached r (bindings_of packet key after)
+  pub back : taken_back r (bindings_of packet key after) ≡ bindings_of packet key before
+
+pub crossed_leads : {count : ℕ} {packet key : List ℕ} {e : Edge} {b : Binding} {before after : List (Answer Span)} {r : Answer Crossing}
+    → Crossed count packet key e b before r after → LeadsBack count packet key e b before r after
+crossed_leads crossed = record { leads = crossed.leads; back = crossed.back }
+
 -- ---- a ValueEdge
 
 -- v is what its Value holds, and t whether that equals the component c
@@ -56,21 +68,30 @@ module _ (s c : List ℕ) {v : List ℕ} (v-is : v ≡ the_inside type.Value s) 
   value_open f d = record { leads = λ count β b e. value_leads count β b e ∙ rw (f, ← d); binds_none = refl }
 
 -- where nothing was bound, nothing is taken back
-kept_back : (r : Answer Crossing) → new_tag r ≡ None → (β : Bindings) → taken_back r β ≡ β
+pub kept_back : (r : Answer Crossing) → new_tag r ≡ None → (β : Bindings) → taken_back r β ≡ β
 kept_back None e β = refl
 kept_back (Some x) e β = ap (λ o. tag_back o β) e
 
--- under the bindings as they stand, with the component at its place
+-- a ValueEdge that is crossed alike under all bindings, and after which they are as before: under those that the slots hold
+pub value_led : (s : List ℕ) {count : ℕ} {packet key c : List ℕ} {slots : List (Answer Span)} {at : ℕ} {r : Answer Crossing}
+    → Ready count packet key at c slots
+    → ((n : ℕ) (β : Bindings) (b : Binding) → b.component.content ≡ component_of c → leads_to n β b (edge_of Value s) ≡ reached r β)
+    → ((β : Bindings) → taken_back r β ≡ β)
+    → LeadsBack count packet key (edge_of Value s) (binding_at packet key at (length c)) slots r slots
+unfolding binding_at
+value_led s {count} {packet} {key} {c} {slots} {at} ready leads kept =
+    record {
+      leads = leads count (bindings_of packet key slots) (binding_at packet key at (length c)) ready.stands.content;
+      back = kept (bindings_of packet key slots);
+    }
+
+-- and so crossed, as `cross` promises it
 pub value_crossed : {count : ℕ} {packet key s c : List ℕ} {slots : List (Answer Span)} {at : ℕ} {r : Answer Crossing} → Ready count packet key at c slots
     → CrossedValue s c r
     → Crossed count packet key (edge_of Value s) (binding_at packet key at (length c)) slots r slots
-unfolding binding_at
-value_crossed {count} {packet} {key} {c = c} {slots = slots} {at = at} {r = r} ready value =
-    record {
-      leads = value.leads count (bindings_of packet key slots) (binding_at packet key at (length c)) ready.stands.content;
-      back = kept_back r value.binds_none (bindings_of packet key slots);
-      low = λ t e. clash (let g = sym value.binds_none ∙ e in cc);
-    }
+value_crossed {s = s} {r = r} ready value =
+    let led = value_led s ready value.leads (kept_back r value.binds_none) in
+    record { leads = led.leads; back = led.back; low = λ t e. clash (let g = sym value.binds_none ∙ e in cc) }
 
 -- ---- a PatternEdge
 
@@ -150,9 +171,9 @@ module _ {count : ℕ} {packet key s c : List ℕ} {slots : List (Answer Span)} 
   pub temporary_kept : t ≡ true → count < f.tag → Answered (Some (record { node = f.dest; bound = None })) slots
   temporary_kept e h = pattern_kept e (temporary_stays count β f.tag b h)
 
-  -- an unbound one is bound, if it has a binding
-  module _ (all : length slots ≡ max_tag) (e : t ≡ true) {u : Bool} (u-is : u ≡ read_some o) (u-false : u ≡ false) (named : f.tag ≤ count)
-      {after : List (Answer Span)} (after_is : after ≡ bound_slots f.tag (record { start = at; size = length c }) slots) where
+  -- an unbound one is bound: where the edge leads then, and that unbinding it gives what was before, be it a Tag that has a binding or not
+  module _ (e : t ≡ true) {u : Bool} (u-is : u ≡ read_some o) (u-false : u ≡ false) (named : f.tag ≤ count) {after : List (Answer Span)}
+      (after_is : after ≡ bound_slots f.tag (record { start = at; size = length c }) slots) where
     free : bound β f.tag ≡ none
     free = let z = none_read (sym u-is ∙ u-false) in ⊎_elim (λ (q, w). w) (λ (y, q, w). clash (let g = sym z ∙ q in cc)) tag_read
 
@@ -162,18 +183,28 @@ module _ {count : ℕ} {packet key s c : List ℕ} {slots : List (Answer Span)} 
     now : bindings_of packet key after ≡ bind_tag count β f.tag b
     now = ap (bindings_of packet key) after_is ∙ bound_bindings packet key slots count f.tag x named free
 
+    pub free_led : LeadsBack count packet key (edge_of Pattern s) b slots (Some (record { node = f.dest; bound = Some f.tag })) after
+    free_led =
+        record {
+          leads = pattern_leads ∙ rw (e, now) refl;
+          back = ap (λ l. without f.tag (bindings_of packet key l)) after_is ∙ bound_back packet key slots count f.tag x named free;
+        }
+
+  -- what is answered is the Tag, if it has a binding
+  module _ (all : length slots ≡ max_tag) (e : t ≡ true) {u : Bool} (u-is : u ≡ read_some o) (u-false : u ≡ false) (named : f.tag ≤ count)
+      {after : List (Answer Span)} (after_is : after ≡ bound_slots f.tag (record { start = at; size = length c }) slots) where
     pub free_bound : (r : Answer ℕ) → r ≡ bound_tag f.tag → Answered (Some (record { node = f.dest; bound = r })) after
     free_bound None r-is =
         record {
-          leads = pattern_leads ∙ rw (e, now) refl;
-          back = ap (bindings_of packet key) (after_is ∙ tag_unbound f.tag x all (sym r-is));
+          leads = (free_led e u-is u-false named after_is).leads;
+          back = ap (bindings_of packet key) (after_is ∙ tag_unbound f.tag (record { start = at; size = length c }) all (sym r-is));
           low = λ t i. clash (cc);
         }
     free_bound (Some y) r-is =
         let same-tag = (tag_bound f.tag (sym r-is)).0 in
         record {
-          leads = pattern_leads ∙ rw (e, now) refl;
-          back = rw same-tag (ap (λ l. without f.tag (bindings_of packet key l)) after_is ∙ bound_back packet key slots count f.tag x named free);
+          leads = (free_led e u-is u-false named after_is).leads;
+          back = rw same-tag (free_led e u-is u-false named after_is).back;
           low = λ i q. (tag_bound f.tag (sym r-is ∙ q)).1;
         }
 
@@ -181,7 +212,7 @@ module _ {count : ℕ} {packet key s c : List ℕ} {slots : List (Answer Span)} 
 
 -- only named Tags are bound after it
 pub crossed_named : {count : ℕ} {packet key : List ℕ} {before after : List (Answer Span)} {e : Edge} {b : Binding} (r : Answer Crossing)
-    → OnlyNamed count (bindings_of packet key before) → Crossed count packet key e b before r after → OnlyNamed count (bindings_of packet key after)
+    → OnlyNamed count (bindings_of packet key before) → LeadsBack count packet key e b before r after → OnlyNamed count (bindings_of packet key after)
 unfolding leads_to
 crossed_named {count} None named crossed = subst (OnlyNamed count) (sym crossed.back) named
 crossed_named {count} {packet} {key} {before} {after} {e} {b} (Some x) named crossed =
@@ -203,7 +234,7 @@ cross_leads m b x i e = go (bindings_after m.pattern_count x.bindings b e)
 -- the step of a walk that a crossing is, from x with the edge of ordinal i
 pub crossed_step : {count : ℕ} {packet key : List ℕ} {before after : List (Answer Span)} {e : Edge} {b : Binding} {r : Answer Crossing}
     (m : Model) (x : Match) (i : ℕ)
-    → count ≡ m.pattern_count → bindings_of packet key before ≡ x.bindings → Crossed count packet key e b before r after
+    → count ≡ m.pattern_count → bindings_of packet key before ≡ x.bindings → LeadsBack count packet key e b before r after
     → cross m b x i e ≡ bind (reached r (bindings_of packet key after)) (arriving (x.path ++ (i ∷ [])))
 crossed_step {e = e} {b = b} m x i count-is before_is crossed =
     cross_leads m b x i e ∙ ap (λ o. bind o (arriving (x.path ++ (i ∷ [])))) (rw (count-is, before_is) at crossed.leads)

@@ -19,13 +19,13 @@ use Rattle.lvs_spec.specs.Demands.{OnlyNamed}
 use Rattle.lvs_spec.specs.declared.refusal.Side.{Side}
 use Rattle.lvs_bindings.specs.Slots.{binding_at, bindings_of}
 use Rattle.lvs_bindings.specs.declared.Span.{Span}
-use Rattle.lvs_edges.specs.Crossing.{reached, arriving, Crossed}
+use Rattle.lvs_edges.specs.Crossing.{reached, arriving}
 use Rattle.lvs_edges.specs.Left.{edge_is, edges_left}
 use Rattle.lvs_edges.specs.Sides.{row_for}
 use Rattle.lvs_edges.specs.declared.Crossing.{Crossing}
 use Rattle.lvs_edges.specs.declared.Edge.{Edge as AnEdge}
 use Rattle.lvs_edges.specs.declared.Edges.{Edges}
-use Rattle.lvs_edges.proofs.Crossed.{crossed_named, crossed_step}
+use Rattle.lvs_edges.proofs.Crossed.{LeadsBack, crossed_named, crossed_step}
 use Rattle.lvs_edges.proofs.Rows.{Found}
 use Rattle.lvs_follow.specs.Following.{Stepped, Led}
 
@@ -67,7 +67,7 @@ module _ (m : Model) (packet key : List ℕ) (v n : ℕ) (b : Binding) (before :
   -- there is
   pub step_crossed : {count : ℕ} {e : Edge} {r : Answer Crossing} {after : List (Answer Span)} → count ≡ m.pattern_count
       → OnlyNamed count (bindings_of packet key before) → get_elem? (edges (node_at m v)) n ≡ math.some e
-      → Crossed count packet key e b before r after → Stepped m packet key v n b before r after
+      → LeadsBack count packet key e b before r after → Stepped m packet key v n b before r after
   step_crossed {r = r} {after = after} count-is named e crossed =
       record {
         leads = λ x at bound. ap (λ o. bind o (cross m b x n)) (there x at e) ∙ crossed_step m x n count-is (sym bound) crossed;

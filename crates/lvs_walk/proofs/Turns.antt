@@ -12,10 +12,10 @@ use Rattle.lvs_spec.specs.Demands.{OnlyNamed}
 use Rattle.lvs_spec.proofs.Lists.{clash}
 use Rattle.lvs_bindings.specs.Slots.{binding_at, bindings_of, cleared_slots}
 use Rattle.lvs_bindings.proofs.Bound.{cleared_bindings}
-use Rattle.lvs_edges.specs.Crossing.{reached, arriving, unbound, Crossed}
+use Rattle.lvs_edges.specs.Crossing.{reached, arriving, unbound}
 use Rattle.lvs_edges.specs.Sides.{row_for}
 use Rattle.lvs_edges.specs.declared.Crossing.{Crossing}
-use Rattle.lvs_edges.proofs.Crossed.{crossed_step}
+use Rattle.lvs_edges.proofs.Crossed.{LeadsBack, crossed_step}
 use Rattle.lvs_edges.proofs.Rows.{Found}
 use Rattle.lvs_walk.specs.Search.{Hit, hits, first_found, side_of, written, hit_of, First, mapped}
 use Rattle.lvs_walk.specs.declared.goal.Goal.{Goal}
@@ -109,7 +109,7 @@ module _ {S : Search} {slots : List (Answer Span)} {path : List ℕ} {n : ℕ} {
     ordinal_low = omega (arith, t.few, ap length edge)
 
     -- its crossing r, with the slots after it
-    module _ {r : Answer Crossing} {after : List (Answer Span)} (crossed : Crossed S.named S.packet S.key e S.c slots r after) where
+    module _ {r : Answer Crossing} {after : List (Answer Span)} (crossed : LeadsBack S.named S.packet S.key e S.c slots r after) where
       leads : cross (model_of S.model) S.c (here S) n e ≡ bind (reached r (bindings S after)) (arriving (n ∷ []))
       leads = crossed_step (model_of S.model) (here S) n t.count t.kept crossed
 

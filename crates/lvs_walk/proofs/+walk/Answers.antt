@@ -1,7 +1,7 @@
 -- `lvs_walk::walk` meets its contract. Assumes nothing.
 use Rattle.std.proofs.Common.{set, refl, ap, ◌∙◌, arith}
 use Rattle.lvs_bindings.specs.Names.{name_for, text_place}
-use Rattle.lvs_edges.proofs.Crossed.{crossed_named}
+use Rattle.lvs_edges.proofs.Crossed.{crossed_leads, crossed_named}
 use Rattle.lvs_edges.proofs.Rows.{no_component, found_at, ends_low}
 use Rattle.lvs_walk.specs.Search.{side_of, afterwards}
 use Rattle.lvs_walk.proofs.Hits.{end_match, end_packet, end_key}
@@ -73,7 +73,7 @@ walk-found-requires t c =
     let f = found_at _ _ (side_of c.args.goal) c.args.at s.packet_short s.key_short named-for c.component_at.ensures c.in-Some.is text-at in (
       omega (arith, c.decreases, f.some, f.within),
       (
-        crossed_named _ (turn_named c.loop-ordinal.invariant) c.cross-crossed.ensures,
+        crossed_named _ (turn_named c.loop-ordinal.invariant) (crossed_leads c.cross-crossed.ensures),
         (c.requires.started, omega (arith, c.requires.few, f.some, f.within)),
       ),
     )
@@ -92,25 +92,27 @@ returns-in-Some-found t c =
     let text-at = c.place-text.ensures ∙ ap (λ g. text_place s.names.packet.now g c.args.at) c.side_of-side.ensures in
     begun _ s.named _ _ _ _ c.args.goal
     (found_at _ _ (side_of c.args.goal) c.args.at s.packet_short s.key_short named-for c.component_at.ensures c.in-Some.is text-at)
-    (turn_found c.loop-ordinal.invariant h.0 c.cross-crossed.ensures c.in-Some-crossed.is c.in-Some-found.ensures refl
+    (turn_found c.loop-ordinal.invariant h.0 (crossed_leads c.cross-crossed.ensures) c.in-Some-crossed.is c.in-Some-found.ensures refl
     (c.put_word.ensures ∙ ap (set c.walk-found.new.path c.args.depth) h.1))
 
 pub loop-ordinal-preserved-in-Some-bound : goal.loop-ordinal-preserved-in-Some-bound
 loop-ordinal-preserved-in-Some-bound t c =
     let h = c.in-Some-2.ensures.steps in
     rw h.2
-    (turn_unbound c.loop-ordinal.invariant h.0 c.cross-crossed.ensures c.in-Some-crossed.is c.walk-found.ensures c.in_default-found.is c.in-Some-bound.is
-    c.unbind.ensures)
+    (turn_unbound c.loop-ordinal.invariant h.0 (crossed_leads c.cross-crossed.ensures) c.in-Some-crossed.is c.walk-found.ensures
+    c.in_default-found.is c.in-Some-bound.is c.unbind.ensures)
 
 pub loop-ordinal-preserved-in_default-bound : goal.loop-ordinal-preserved-in_default-bound
 loop-ordinal-preserved-in_default-bound t c =
     let h = c.in-Some-2.ensures.steps in
     rw h.2
-    (turn_kept c.loop-ordinal.invariant h.0 c.cross-crossed.ensures c.in-Some-crossed.is c.walk-found.ensures c.in_default-found.is c.in_default-bound.is)
+    (turn_kept c.loop-ordinal.invariant h.0 (crossed_leads c.cross-crossed.ensures) c.in-Some-crossed.is c.walk-found.ensures
+    c.in_default-found.is c.in_default-bound.is)
 
 pub loop-ordinal-preserved : goal.loop-ordinal-preserved
 loop-ordinal-preserved t c =
-    let h = c.in-Some-2.ensures.steps in rw h.2 (turn_shut c.loop-ordinal.invariant h.0 c.cross-crossed.ensures c.in_default-crossed.is)
+    let h = c.in-Some-2.ensures.steps in
+    rw h.2 (turn_shut c.loop-ordinal.invariant h.0 (crossed_leads c.cross-crossed.ensures) c.in_default-crossed.is)
 
 pub returns : goal.returns
 returns t c =
