@@ -28,6 +28,7 @@ impl<'a> Nodes<'a> {
     ghost use Rattle.lvs_edges.specs.Nodes.{body_at};
     ghost use Rattle.lvs_edges.specs.Left.{edges_left};
 
+    /// The Nodes of a model. A layer below the public calls: `requires` asks for a model that can be walked, as every accepted one can.
     pub fn of(model: &'a [u8]) -> Nodes<'a>
         requires { Walkable model.now }
         ensures { result.model ≡ model.entry }
